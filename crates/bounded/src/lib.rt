@@ -1,0 +1,5 @@
+// A list of at most N items that lies in place, with no heap.
+pub mod alike;
+pub mod keep;
+pub mod list;
+pub mod work;

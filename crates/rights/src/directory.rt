@@ -1,0 +1,11 @@
+// A directory, as far as searching it goes.
+ghost use Prim.Native.Nat.{ℕ, _<_};
+use crate::execute::Execute;
+
+#[derive(Clone, Copy)]
+pub struct Directory {
+    pub owner: u16,
+    pub group: u8,
+    pub execute: Execute,
+    ghost small: { group < 256 },
+}
