@@ -6,18 +6,18 @@ use Prim.Native.Nat.{ℕ, zero, suc, _+_, _-_, _<_, _≤_}
 use native.Mathlib.Numerals.{add-one}
 use native.Mathlib.Omega.{arith}
 use base.Stored.{Coded}
-use lib.ListN.{length, take, replicate, getD}
+use lib.ListN.{length, take, drop, set, replicate, getD}
 use lib.Seq.{take-all, take-append-seam}
 use Rattle.std.specs.shelf.Lists.{kept-by}
 use Rattle.std.proofs.shelf.Elements.{kept-by-append}
-use Rattle.std.proofs.shelf.Lists.{take-more, append-nil}
+use Rattle.std.proofs.shelf.Lists.{append-nil, append-assoc, take-more, getD-drop, drop-drop, drop-set-lt}
 use Rattle.std.proofs.shelf.Tests.{and-right, or-right}
 use Rattle.bounded.specs.declared.list.Bounded.{Bounded}
 use Rattle.bounded.specs.Lists.{listed, packed}
 use Rattle.bounded.specs.Tests.{all-of, any-of, same-lists}
-use Rattle.bounded.proofs.Packing.{from-taken}
+use Rattle.bounded.proofs.Packing.{from-taken, from-listed}
 
--- the first i items and the one at i
+-- what the loop has read: the first i items, and the one at i
 pub take-read : {X : Type 0} (xs : List X) (i : ℕ) (x : X) → i < length xs → x ≡ getD xs i x → take (i + 1) xs ≡ take i xs ++ (x ∷ [])
 take-read xs i x within here = take-more xs i x within ∙ ap (λ y. take i xs ++ (y ∷ [])) (sym here)
 
@@ -46,13 +46,6 @@ module _ {X : Type 0} (p : X → Bool) where
   any-stop (y ∷ ys) zero x within here passes = ap (λ b. b || any-of p ys) (passes ∙ ap p here)
   any-stop (y ∷ ys) (suc i) x within here passes = sym (or-right (p y) (any-of p ys) (sym (any-stop ys i x (omega arith) here passes)))
 
-  -- all items were tried
-  pub all-end : (xs : List X) (i : ℕ) → length xs ≤ i → all-of p (take i xs) ≡ true → true ≡ all-of p xs
-  all-end xs i past all = sym all ∙ ap (all-of p) (take-all i xs past)
-
-  pub any-end : (xs : List X) (i : ℕ) → length xs ≤ i → any-of p (take i xs) ≡ false → false ≡ any-of p xs
-  any-end xs i past none = sym none ∙ ap (any-of p) (take-all i xs past)
-
   module _ (xs : List X) (i : ℕ) (x : X) (within : i < length xs) (here : x ≡ getD xs i x) where
     -- all so far, and the next
     pub all-more : all-of p (take i xs) ≡ true → true ≡ p x → all-of p (take (i + 1) xs) ≡ true
@@ -68,9 +61,11 @@ module _ {X : Type 0} (p : X → Bool) where
     pub keep-more : kept-by p (take (i + 1) xs) ≡ kept-by p (take i xs) ++ cond (p x) (x ∷ []) []
     keep-more = ap (kept-by p) (take-read xs i x within here) ∙ kept-by-append p (take i xs) (x ∷ [])
 
+    -- an item that passes is kept
     pub taken-in : true ≡ p x → kept-by p (take (i + 1) xs) ≡ kept-by p (take i xs) ++ (x ∷ [])
     taken-in passes = keep-more ∙ ap (λ b. kept-by p (take i xs) ++ cond b (x ∷ []) []) (sym passes)
 
+    -- one that fails is not
     pub left-out : false ≡ p x → kept-by p (take (i + 1) xs) ≡ kept-by p (take i xs)
     left-out fails =
         keep-more ∙ ap (λ b. kept-by p (take i xs) ++ cond b (x ∷ []) []) (sym fails) ∙ append-nil (kept-by p (take i xs))
@@ -104,6 +99,21 @@ module _ {X : Type 0} (same : X → X → Bool) where
   same-long (x ∷ xs) [] differ = refl
   same-long (x ∷ xs) (y ∷ ys) differ = sym (and-right (same x y) (same-lists same xs ys) (sym (same-long xs ys (λ e. differ (ap suc e)))))
 
+-- a loop over ys that began as xs, and changes what it has read: the rest is as it was
+module _ {X : Type 0} (xs ys : List X) (i : ℕ) (rest : drop i ys ≡ drop i xs) where
+  same-place : (d : X) → getD ys i d ≡ getD xs i d
+  same-place d =
+      let here : i + 0 ≡ i = omega arith in
+      ap (λ k. getD ys k d) (sym here) ∙ sym (getD-drop i ys 0 d) ∙ ap (λ zs. getD zs 0 d) rest ∙ getD-drop i xs 0 d ∙ ap (λ k. getD xs k d) here
+
+  pub rest-read : (x : X) → x ≡ getD ys i x → x ≡ getD xs i x
+  rest-read x here = here ∙ same-place x
+
+  pub rest-more : (zs : List X) (y : X) → zs ≡ set ys i y → drop (i + 1) zs ≡ drop (i + 1) xs
+  rest-more zs y wrote =
+      let next : i < i + 1 = omega arith in
+      ap (drop (i + 1)) wrote ∙ drop-set-lt (i + 1) ys i y next ∙ sym (drop-drop 1 i ys) ∙ ap (drop 1) rest ∙ drop-drop 1 i xs
+
 take-first : {X : Type 0} (n : ℕ) (xs ys : List X) → take n (take n xs ++ ys) ≡ take n (xs ++ ys)
 take-first zero xs ys = refl
 take-first (suc n) [] ys = refl
@@ -114,14 +124,31 @@ listed-packed n filler xs = take-append-seam (take n xs) (replicate (n - length 
 
 -- a record that is packed in turns
 module _ {X : Type 0} (K : Coded X) (n : ℕ) where
-  pub packed-same : (filler : X) (xs ys : List X) → take n xs ≡ take n ys → packed n filler xs ≡ packed n filler ys
+  packed-same : (filler : X) (xs ys : List X) → take n xs ≡ take n ys → packed n filler xs ≡ packed n filler ys
   packed-same filler xs ys e = from-taken K (packed n filler xs) ys (listed-packed n filler xs ∙ e)
 
-  pub packed-append : (filler : X) (xs ys : List X) → packed n filler (listed (packed n filler xs) ++ ys) ≡ packed n filler (xs ++ ys)
+  packed-append : (filler : X) (xs ys : List X) → packed n filler (listed (packed n filler xs) ++ ys) ≡ packed n filler (xs ++ ys)
   packed-append filler xs ys =
       packed-same filler (listed (packed n filler xs) ++ ys) (xs ++ ys)
-        (ap (λ zs. take n (zs ++ ys)) (listed-packed n filler xs) ∙ take-first n xs ys)
+      (ap (λ zs. take n (zs ++ ys)) (listed-packed n filler xs) ∙ take-first n xs ys)
 
-  -- one turn more
+  -- a turn that adds something
   pub pushed : (filler : X) (a b : Bounded X n) (xs ys : List X) → a ≡ packed n filler xs → b ≡ packed n (a .filler) (listed a ++ ys) → b ≡ packed n filler (xs ++ ys)
   pushed filler a b xs ys was grew = grew ∙ ap (λ r. packed n (r .filler) (listed r ++ ys)) was ∙ packed-append filler xs ys
+
+  -- a turn that adds nothing
+  pub unchanged : (b : Bounded X n) → b ≡ packed n (b .filler) (listed b ++ [])
+  unchanged b = from-listed K b (listed b ++ []) (sym (append-nil (listed b)))
+
+-- what a test keeps of one item
+pub kept-item : {X : Type 0} (p : X → Bool) (x : X) (b : Bool) → b ≡ p x → cond b (x ∷ []) [] ≡ kept-by p (x ∷ [])
+kept-item p x b is = ap (λ t. cond t (x ∷ []) []) is
+
+-- a loop that adds to a record what F makes of each item
+module _ {X Y : Type 0} (K : Coded Y) (n : ℕ) (F : List X → List Y) (split : (xs ys : List X) → F (xs ++ ys) ≡ F xs ++ F ys) where
+  pub gathered : (filler : Y) (before : List Y) (a b : Bounded Y n) (xs : List X) (i : ℕ) (x : X) (ys : List Y) → i < length xs → x ≡ getD xs i x → a ≡ packed n filler (before ++ F (take i xs)) → b ≡ packed n (a .filler) (listed a ++ ys) → ys ≡ F (x ∷ []) → b ≡ packed n filler (before ++ F (take (i + 1) xs))
+  gathered filler before a b xs i x ys within here was grew made =
+      pushed K n filler a b (before ++ F (take i xs)) ys was grew
+      ∙ ap (packed n filler)
+      (append-assoc before (F (take i xs)) ys
+      ∙ ap (λ zs. before ++ zs) (ap (λ zs. F (take i xs) ++ zs) made ∙ sym (split (take i xs) (x ∷ [])) ∙ ap F (sym (take-read xs i x within here))))

@@ -1,11 +1,10 @@
-// Whether two lists hold the same.
+// Lists compared item by item.
 ghost use mathlib.Core.Path.{_≡_};
 ghost use mathlib.Core.Bool.{Bool};
-ghost use Rattle.bounded.specs.Lists.{listed};
+ghost use lib.Dec.{eqb};
 ghost use Rattle.bounded.specs.Tests.{same-lists};
-use crate::list::Bounded;
 
-// Items that can be compared.
+// What is compared by a test of its own.
 pub trait Alike: Copy {
     ghost alike: { Self → Self → Bool };
 
@@ -13,17 +12,23 @@ pub trait Alike: Copy {
         ensures { λ r. ⌜ r ≡ alike (now (self .entry)) (now (other .entry)) ⌝ };
 }
 
-// Whether both lists are as long, and alike item by item.
-pub fn same<T: Alike, const N: usize>(a: &Bounded<T, N>, b: &Bounded<T, N>) -> bool
-    ensures { λ r. ⌜ r ≡ same-lists (T·Alike .alike) (listed (now (a .entry))) (listed (now (b .entry))) ⌝ }
+pub impl Alike for u16 as NumberAlike {
+    ghost alike = { eqb };
+
+    fn alike(&self, other: &u16) -> bool {
+        *self == *other
+    }
+}
+
+// Whether two lists are as long, and alike item by item.
+pub fn same_lists<T: Alike>(a: &[T], b: &[T]) -> bool
+    ensures { λ r. ⌜ r ≡ same-lists (T·Alike .alike) (now (a .entry)) (now (b .entry)) ⌝ }
 {
-    let ours = a.as_slice();
-    let theirs = b.as_slice();
-    if ours.len() != theirs.len() {
+    if a.len() != b.len() {
         return false;
     }
-    for i in 0..ours.len() {
-        if !ours[i].alike(&theirs[i]) {
+    for (i, item) in a.iter().enumerate() {
+        if !item.alike(&b[i]) {
             return false;
         }
     }

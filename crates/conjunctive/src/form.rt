@@ -8,7 +8,7 @@ use crate::asked::ClauseAlike;
 use crate::clause::Clause;
 use crate::clauses::Clauses;
 use crate::record::Conjunctive;
-use bounded::alike::same;
+use bounded::alike::same_lists;
 use bounded::list::Bounded;
 use rights::directory::Directory;
 use rights::form::Form;
@@ -49,6 +49,6 @@ pub impl Form for Conjunctive as ConjunctiveForm {
     }
 
     fn same(&self, other: &Conjunctive) -> bool {
-        same(&self.clauses.list, &other.clauses.list)
+        same_lists(self.clauses.list.as_slice(), other.clauses.list.as_slice())
     }
 }

@@ -1,7 +1,7 @@
 use mathlib.Core.Path.{ap, _∙_}
+use mathlib.Core.Bool.{false}
 use Rattle.std.proofs.shelf.Lists.{getD-default}
-use Rattle.bounded.proofs.Loops.{any-stop, any-more, any-end}
-use Rattle.bounded.specs.Tests.{any-of}
+use Rattle.bounded.proofs.Loops.{any-stop, any-more, at-end}
 use Rattle.conjunctive.specs.Clauses.{within}
 use Rattle.conjunctive.specs.Adding.{covers}
 use Rattle.conjunctive.proofs.clauses.Clauses.covers.Needs as need
@@ -22,5 +22,5 @@ loop-clause-again c =
 pub returns : need.returns
 returns c =
     let xs = c .as-slice-clause-items .result .now in
-    any-end (λ x. within x (c .args .added)) xs (c .loop-clause .clause-index) (c .loop-clause-test .left) (c .loop-clause .inv)
+    at-end (λ ys. covers ys (c .args .added)) xs (c .loop-clause .clause-index) false (c .loop-clause-test .left) (c .loop-clause .inv)
     ∙ ap (λ ys. covers ys (c .args .added)) (c .as-slice-clause-items .ensures)

@@ -1,6 +1,7 @@
 use mathlib.Core.Path.{ap, _∙_}
+use mathlib.Core.Bool.{true}
 use Rattle.std.proofs.shelf.Lists.{getD-default}
-use Rattle.bounded.proofs.Loops.{all-stop, all-more, all-end}
+use Rattle.bounded.proofs.Loops.{all-stop, all-more, at-end}
 use Rattle.rights.specs.Subjects.{who-of}
 use Rattle.conjunctive.specs.Clauses.{holds, all-hold}
 use Rattle.conjunctive.proofs.clauses.Clauses.hold.Needs as need
@@ -23,5 +24,5 @@ loop-clause-again c =
 pub returns : need.returns
 returns c =
     let w = who-of (c .args .subject .now) in
-    all-end (λ x. holds x w) (c .as-slice-clause-items .result .now) (c .loop-clause .clause-index) (c .loop-clause-test .left) (c .loop-clause .inv)
+    at-end (λ ys. all-hold ys w) (c .as-slice-clause-items .result .now) (c .loop-clause .clause-index) true (c .loop-clause-test .left) (c .loop-clause .inv)
     ∙ ap (λ ys. all-hold ys w) (c .as-slice-clause-items .ensures)

@@ -1,0 +1,13 @@
+pub mod Admitting
+pub mod Bools
+pub mod Lawful
+pub mod Moved
+pub mod Narrowed
+pub mod Narrowing
+pub mod Ordered
+pub mod Pieces
+pub mod Records
+pub mod Shutting
+pub mod Tested
+pub mod Tidying
+pub mod Turns

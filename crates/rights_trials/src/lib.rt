@@ -1,0 +1,3 @@
+// A third form, as a stranger would write one, and tests over all forms.
+pub mod form;
+pub mod trail;
