@@ -9,7 +9,6 @@ use base.Stored.{Coded}
 use lib.ListN.{length, take, drop, set, replicate, getD}
 use lib.Seq.{take-all, take-append-seam}
 use Rattle.std.specs.shelf.Lists.{kept-by}
-use Rattle.std.proofs.shelf.Elements.{kept-by-append}
 use Rattle.std.proofs.shelf.Lists.{append-nil, append-assoc, take-more, getD-drop, drop-drop, drop-set-lt}
 use Rattle.std.proofs.shelf.Tests.{and-right, or-right}
 use Rattle.bounded.specs.declared.list.Bounded.{Bounded}
@@ -56,19 +55,6 @@ module _ {X : Type 0} (p : X → Bool) where
     pub any-more : any-of p (take i xs) ≡ false → false ≡ p x → any-of p (take (i + 1) xs) ≡ false
     any-more none fails =
         ap (any-of p) (take-read xs i x within here) ∙ any-append (take i xs) (x ∷ []) ∙ ap₂ _||_ none (or-false (p x) ∙ sym fails)
-
-    -- what a test keeps, and the next item where it passes
-    pub keep-more : kept-by p (take (i + 1) xs) ≡ kept-by p (take i xs) ++ cond (p x) (x ∷ []) []
-    keep-more = ap (kept-by p) (take-read xs i x within here) ∙ kept-by-append p (take i xs) (x ∷ [])
-
-    -- an item that passes is kept
-    pub taken-in : true ≡ p x → kept-by p (take (i + 1) xs) ≡ kept-by p (take i xs) ++ (x ∷ [])
-    taken-in passes = keep-more ∙ ap (λ b. kept-by p (take i xs) ++ cond b (x ∷ []) []) (sym passes)
-
-    -- one that fails is not
-    pub left-out : false ≡ p x → kept-by p (take (i + 1) xs) ≡ kept-by p (take i xs)
-    left-out fails =
-        keep-more ∙ ap (λ b. kept-by p (take i xs) ++ cond b (x ∷ []) []) (sym fails) ∙ append-nil (kept-by p (take i xs))
 
 module _ {X : Type 0} (same : X → X → Bool) where
   -- two items differ

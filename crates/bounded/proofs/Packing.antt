@@ -32,8 +32,8 @@ module _ {X : Type 0} (K : Coded X) {n : ℕ} where
   from-taken b xs e =
       let count : b .count ≡ length (take n xs) = sym (length-listed b) ∙ ap length e in
       same-record b (packed n (b .filler) xs) count
-        (sym (take-append-drop (b .count) (b .items)) ∙ ap₂ _++_ e (b .ok .2 ∙ ap (λ m. replicate (n - m) (b .filler)) count))
-        refl
+      (sym (take-append-drop (b .count) (b .items)) ∙ ap₂ _++_ e (b .ok .2 ∙ ap (λ m. replicate (n - m) (b .filler)) count))
+      refl
 
   pub from-listed : (b : Bounded X n) (xs : List X) → listed b ≡ xs → b ≡ packed n (b .filler) xs
   from-listed b xs e =
@@ -48,7 +48,7 @@ module _ {X : Type 0} (K : Coded X) {n : ℕ} where
   from-full b x h =
       let long = length-listed b in
       from-taken b (listed b ++ (x ∷ []))
-        (sym (take-append-le n (listed b) (x ∷ []) (omega (arith, long)) ∙ take-all n (listed b) (omega (arith, long, b .ok .0))))
+      (sym (take-append-le n (listed b) (x ∷ []) (omega (arith, long)) ∙ take-all n (listed b) (omega (arith, long, b .ok .0))))
 
   -- the places past the count, one item on
   pub padded : (b : Bounded X n) (x : X) → drop (b .count + 1) (set (b .items) (b .count) x) ≡ replicate (n - (b .count + 1)) (b .filler)

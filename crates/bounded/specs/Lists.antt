@@ -19,5 +19,6 @@ packed n filler xs = let ys = take n xs in record {
   ok = (
     omega (arith, length-take n xs),
     simp (length-append, length-replicate) (omega (arith, length-take n xs)),
-    drop-append-seam ys (replicate (n - length ys) filler));
+    drop-append-seam ys (replicate (n - length ys) filler),
+  );
 }

@@ -18,6 +18,7 @@ within-empty x = ap₂ _&&_ (by-user (x .user)) (by-group (x .group))
     by-user user.Absent = refl
     by-user (user.Is u) = refl
     by-user (user.IsNot u) = refl
+
     by-group : (g : GroupLiteral) → group-within g group.Absent ≡ no-group g
     by-group group.Absent = refl
     by-group (group.In g) = refl

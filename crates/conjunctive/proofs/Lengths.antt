@@ -52,6 +52,6 @@ under-append u xs (y ∷ ys) zs = under-append u (add-under u xs y) ys zs
 
 -- rule 5, one clause more
 pub under-more : (u : ℕ) (xs ys : List Clause) (i : ℕ) (d : Clause) (so-far : List Clause) → i < length ys → so-far ≡ all-under u xs (take i ys)
-  → add-under u so-far (getD ys i d) ≡ all-under u xs (take (i + 1) ys)
+    → add-under u so-far (getD ys i d) ≡ all-under u xs (take (i + 1) ys)
 under-more u xs ys i d so-far within is =
     ap (λ zs. add-under u zs (getD ys i d)) is ∙ sym (ap (all-under u xs) (take-more ys i d within) ∙ under-append u xs (take i ys) (getD ys i d ∷ []))

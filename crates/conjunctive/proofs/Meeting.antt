@@ -60,8 +60,9 @@ module _ (w : Who) where
   more c d e h =
       let parts = and-parts (user-within (c .user) (d .user)) (group-within (c .group) (d .group)) e in
       elim (or-cases (user-holds (c .user) w) (group-holds (c .group) w) h) [
-        inl u ↦ or-left _ _ (user-more (c .user) (d .user) (parts .0) u)
-      | inr g ↦ or-right _ _ (group-more (c .group) (d .group) (parts .1) g) ]
+        | inl u ↦ or-left _ _ (user-more (c .user) (d .user) (parts .0) u)
+        | inr g ↦ or-right _ _ (group-more (c .group) (d .group) (parts .1) g)
+      ]
 
   covered : (xs : List Clause) (c : Clause) → covers xs c ≡ true → all-hold xs w ≡ true → holds c w ≡ true
   covered [] c e h = never e
@@ -74,8 +75,8 @@ module _ (w : Who) where
   kept (x ∷ xs) c h =
       let rest = kept-by (λ y. not (within c y)) xs in
       cond-both (not (within c x)) (x ∷ rest) rest (λ ys. all-hold ys w ≡ (holds x w && all-hold xs w))
-        (λ out. ap (λ t. holds x w && t) (kept xs c h))
-        (λ in′. kept xs c h ∙ ap (λ t. t && all-hold xs w) (sym (more c x (not-false (within c x) in′) h)))
+      (λ out. ap (λ t. holds x w && t) (kept xs c h))
+      (λ in′. kept xs c h ∙ ap (λ t. t && all-hold xs w) (sym (more c x (not-false (within c x) in′) h)))
 
   ended-law : (xs : List Clause) (c : Clause) → all-hold (ended xs c) w ≡ (all-hold xs w && holds c w)
   ended-law xs c =
@@ -86,7 +87,7 @@ module _ (w : Who) where
   put-law : (xs : List Clause) (c : Clause) → all-hold (put xs c) w ≡ (all-hold xs w && holds c w)
   put-law xs c =
       cond-both (covers xs c) xs (ended xs c) (λ ys. all-hold ys w ≡ (all-hold xs w && holds c w))
-        (λ e. and-implied _ _ (covered xs c e)) (λ e. ended-law xs c)
+      (λ e. and-implied _ _ (covered xs c e)) (λ e. ended-law xs c)
 
   -- rules 1 and 2: the empty clause holds of nobody
   empty-fails : (c : Clause) → is-empty c ≡ true → holds c w ≡ false
@@ -103,8 +104,9 @@ module _ (w : Who) where
   has-empty-fails [] e = never e
   has-empty-fails (x ∷ xs) e =
       elim (or-cases (is-empty x) (any-of is-empty xs) e) [
-        inl here ↦ ap (λ t. t && all-hold xs w) (empty-fails x here)
-      | inr rest ↦ ap (λ t. holds x w && t) (has-empty-fails xs rest) ∙ and-false (holds x w) ]
+        | inl here ↦ ap (λ t. t && all-hold xs w) (empty-fails x here)
+        | inr rest ↦ ap (λ t. holds x w && t) (has-empty-fails xs rest) ∙ and-false (holds x w)
+      ]
 
   emptied : (xs : List Clause) (c : Clause) → is-empty c ≡ true → all-hold (empty ∷ []) w ≡ (all-hold xs w && holds c w)
   emptied xs c e = sym (and-false (all-hold xs w)) ∙ ap (λ t. all-hold xs w && t) (sym (empty-fails c e))
@@ -128,25 +130,25 @@ module _ (w : Who) where
   struck-law u user.Absent g e = refl
   struck-law u (user.Is v) g e =
       cond-both (eqb v u) None (Some (record { user = user.Absent; group = g })) (λ o. Left o (record { user = user.Is v; group = g }))
-        (λ p. ap (λ t. t || group-holds g w) (same-user u v e p)) (λ p. ap (λ t. t || group-holds g w) (sym (other-user u v e p)))
+      (λ p. ap (λ t. t || group-holds g w) (same-user u v e p)) (λ p. ap (λ t. t || group-holds g w) (sym (other-user u v e p)))
   struck-law u (user.IsNot v) g e =
       cond-both (eqb v u) (Some (record { user = user.Absent; group = g })) None (λ o. Left o (record { user = user.IsNot v; group = g }))
-        (λ p. ap (λ t. not t || group-holds g w) (sym (same-user u v e p))) (λ p. ap (λ t. not t || group-holds g w) (other-user u v e p))
+      (λ p. ap (λ t. not t || group-holds g w) (sym (same-user u v e p))) (λ p. ap (λ t. not t || group-holds g w) (other-user u v e p))
 
   left-law : (xs : List Clause) (c : Clause) (o : Option Clause) → (all-hold xs w ≡ true → Left o c) → all-hold (put-left xs o) w ≡ (all-hold xs w && holds c w)
   unfolding Left
   left-law xs c None f = and-implied _ _ f
   left-law xs c (Some d) f =
       cond-both (is-empty d) (empty ∷ []) (put xs d) (λ ys. all-hold ys w ≡ (all-hold xs w && holds c w))
-        (λ e. emptied xs d e ∙ and-same-right _ _ _ f) (λ e. put-law xs d ∙ and-same-right _ _ _ f)
+      (λ e. emptied xs d e ∙ and-same-right _ _ _ f) (λ e. put-law xs d ∙ and-same-right _ _ _ f)
 
   under-law : (u : ℕ) (xs : List Clause) (c : Clause) → (all-hold xs w ≡ true → eqb (w .user) u ≡ true) → all-hold (add-under u xs c) w ≡ (all-hold xs w && holds c w)
   under-law u xs c lone-u =
       let Says : List Clause → Type 0 = λ ys. all-hold ys w ≡ (all-hold xs w && holds c w) in
       let rest = put-left xs (struck u (c .user) (c .group)) in
       cond-both (any-of is-empty xs) xs (cond (is-empty c) (empty ∷ []) rest) Says (stays-empty xs c)
-        (λ e. cond-both (is-empty c) (empty ∷ []) rest Says (emptied xs c)
-          (λ e. left-law xs c (struck u (c .user) (c .group)) (λ h. struck-law u (c .user) (c .group) (lone-u h))))
+      (λ e. cond-both (is-empty c) (empty ∷ []) rest Says (emptied xs c)
+      (λ e. left-law xs c (struck u (c .user) (c .group)) (λ h. struck-law u (c .user) (c .group) (lone-u h))))
 
   -- rule 5
   all-under-law : (u : ℕ) (xs cs : List Clause) → (all-hold xs w ≡ true → eqb (w .user) u ≡ true) → all-hold (all-under u xs cs) w ≡ (all-hold xs w && all-hold cs w)
@@ -174,8 +176,9 @@ module _ (w : Who) where
       let parts = and-parts (holds x w) (all-hold xs w) h in
       let P : Option ℕ → Type 0 = λ o. lone x ≡ o → or-else o (lone-in xs) ≡ Some u → eqb (w .user) u ≡ true in
       let by : (o : Option ℕ) → P o = λ o. elim o as P [
-          None ↦ λ p q. lone-in-law xs u q (parts .1)
-        | Some v ↦ λ p q. lone-law x u (p ∙ q) (parts .0) ] in
+        | None ↦ λ p q. lone-in-law xs u q (parts .1)
+        | Some v ↦ λ p q. lone-law x u (p ∙ q) (parts .0)
+      ] in
       by (lone x) refl e
 
   lone-put-law : (xs : List Clause) (c : Clause) (o : Option ℕ) → lone c ≡ o → all-hold (put-lone xs c o) w ≡ (all-hold xs w && holds c w)
@@ -187,11 +190,11 @@ module _ (w : Who) where
   by-law : (xs : List Clause) (c : Clause) (o : Option ℕ) → lone-in xs ≡ o → all-hold (add-by o xs c) w ≡ (all-hold xs w && holds c w)
   by-law xs c None e =
       cond-both (covers xs c) xs (put-lone xs c (lone c)) (λ ys. all-hold ys w ≡ (all-hold xs w && holds c w))
-        (λ e. and-implied _ _ (covered xs c e)) (λ e. lone-put-law xs c (lone c) refl)
+      (λ e. and-implied _ _ (covered xs c e)) (λ e. lone-put-law xs c (lone c) refl)
   by-law xs c (Some u) e = left-law xs c (struck u (c .user) (c .group)) (λ h. struck-law u (c .user) (c .group) (lone-in-law xs u e h))
 
   pub added-law : (xs : List Clause) (c : Clause) → all-hold (added xs c) w ≡ (all-hold xs w && holds c w)
   added-law xs c =
       let Says : List Clause → Type 0 = λ ys. all-hold ys w ≡ (all-hold xs w && holds c w) in
       cond-both (any-of is-empty xs) xs (cond (is-empty c) (empty ∷ []) (add-by (lone-in xs) xs c)) Says (stays-empty xs c)
-        (λ e. cond-both (is-empty c) (empty ∷ []) (add-by (lone-in xs) xs c) Says (emptied xs c) (λ e. by-law xs c (lone-in xs) refl))
+      (λ e. cond-both (is-empty c) (empty ∷ []) (add-by (lone-in xs) xs c) Says (emptied xs c) (λ e. by-law xs c (lone-in xs) refl))

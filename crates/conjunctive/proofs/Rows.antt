@@ -43,11 +43,11 @@ row-length e = by (e .owner) (e .group) (e .others)
 module _ (u g : ℕ) where
   -- what is left of a row, past a clause and past an empty place
   pub past-clause : (xs : List Clause) (row : List (Option Shape)) (i : ℕ) (o : Option Shape) (s : Shape) → i < length row → getD row i o ≡ Some s
-    → with-row u g xs (drop i row) ≡ with-row u g (added xs (clause-of u g s)) (drop (i + 1) row)
+      → with-row u g xs (drop i row) ≡ with-row u g (added xs (clause-of u g s)) (drop (i + 1) row)
   past-clause xs row i o s within is = at-drop-more (with-row u g xs) row i o within ∙ ap (λ p. with-row u g xs (p ∷ drop (i + 1) row)) is
 
   pub past-none : (xs : List Clause) (row : List (Option Shape)) (i : ℕ) (o : Option Shape) → i < length row → getD row i o ≡ None
-    → with-row u g xs (drop i row) ≡ with-row u g xs (drop (i + 1) row)
+      → with-row u g xs (drop i row) ≡ with-row u g xs (drop (i + 1) row)
   past-none xs row i o within is = at-drop-more (with-row u g xs) row i o within ∙ ap (λ p. with-row u g xs (p ∷ drop (i + 1) row)) is
 
   row-le : (xs : List Clause) (row : List (Option Shape)) → length (with-row u g xs row) ≤ length xs + length row

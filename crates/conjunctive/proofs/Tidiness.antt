@@ -31,7 +31,7 @@ kept-tidy p (x ∷ xs) e =
     let parts = and-parts (all-of (apart x) xs) (tidy xs) e in
     let rest = kept-tidy p xs (parts .1) in
     cond-both (p x) (x ∷ kept-by p xs) (kept-by p xs) (λ ys. tidy ys ≡ true)
-      (λ in′. and-from _ _ (all-kept p (apart x) xs (parts .0)) rest) (λ out. rest)
+    (λ in′. and-from _ _ (all-kept p (apart x) xs (parts .0)) rest) (λ out. rest)
 
 push-tidy : (xs : List Clause) (c : Clause) → tidy xs ≡ true → all-of (λ x. apart x c) xs ≡ true → tidy (xs ++ (c ∷ [])) ≡ true
 push-tidy [] c e h = refl
@@ -48,8 +48,8 @@ kept-apart (x ∷ xs) c e n =
     let rest = kept-apart xs c (parts .1) n in
     let Q = kept-by (λ y. not (within c y)) xs in
     cond-both (not (within c x)) (x ∷ Q) Q (λ ys. all-of (λ y. apart y c) ys ≡ true)
-      (λ out. and-from _ _ (and-from _ _ (not-from-false _ (parts .0)) (and-from _ _ out (ap not (ap (λ o. isSome (lone x) && isSome o) n ∙ and-false (isSome (lone x)))))) rest)
-      (λ in′. rest)
+    (λ out. and-from _ _ (and-from _ _ (not-from-false _ (parts .0)) (and-from _ _ out (ap not (ap (λ o. isSome (lone x) && isSome o) n ∙ and-false (isSome (lone x)))))) rest)
+    (λ in′. rest)
 
 ended-tidy : (xs : List Clause) (c : Clause) → tidy xs ≡ true → covers xs c ≡ false → lone c ≡ None → tidy (ended xs c) ≡ true
 ended-tidy xs c t e n = push-tidy (kept-by (λ x. not (within c x)) xs) c (kept-tidy (λ x. not (within c x)) xs t) (kept-apart xs c e n)
@@ -58,7 +58,7 @@ left-tidy : (xs : List Clause) (g : GroupLiteral) → tidy xs ≡ true → tidy 
 left-tidy xs g t =
     let c : Clause = record { user = user.Absent; group = g } in
     cond-both (is-empty c) (empty ∷ []) (put xs c) (λ ys. tidy ys ≡ true) (λ e. refl)
-      (λ e. cond-both (covers xs c) xs (ended xs c) (λ ys. tidy ys ≡ true) (λ e. t) (λ e. ended-tidy xs c t e refl))
+    (λ e. cond-both (covers xs c) xs (ended xs c) (λ ys. tidy ys ≡ true) (λ e. t) (λ e. ended-tidy xs c t e refl))
 
 struck-tidy : (u : ℕ) (xs : List Clause) (l : UserLiteral) (g : GroupLiteral) → tidy xs ≡ true → tidy (put-left xs (struck u l g)) ≡ true
 struck-tidy u xs user.Absent g t = left-tidy xs g t
@@ -69,7 +69,7 @@ under-tidy : (u : ℕ) (xs : List Clause) (c : Clause) → tidy xs ≡ true → 
 under-tidy u xs c t =
     let rest = put-left xs (struck u (c .user) (c .group)) in
     cond-both (any-of is-empty xs) xs (cond (is-empty c) (empty ∷ []) rest) (λ ys. tidy ys ≡ true) (λ e. t)
-      (λ e. cond-both (is-empty c) (empty ∷ []) rest (λ ys. tidy ys ≡ true) (λ e. refl) (λ e. struck-tidy u xs (c .user) (c .group) t))
+    (λ e. cond-both (is-empty c) (empty ∷ []) rest (λ ys. tidy ys ≡ true) (λ e. refl) (λ e. struck-tidy u xs (c .user) (c .group) t))
 
 all-under-tidy : (u : ℕ) (xs cs : List Clause) → tidy xs ≡ true → tidy (all-under u xs cs) ≡ true
 all-under-tidy u xs [] t = t
@@ -86,4 +86,4 @@ by-tidy None xs c t = cond-both (covers xs c) xs (put-lone xs c (lone c)) (λ ys
 pub added-tidy : (xs : List Clause) (c : Clause) → tidy xs ≡ true → tidy (added xs c) ≡ true
 added-tidy xs c t =
     cond-both (any-of is-empty xs) xs (cond (is-empty c) (empty ∷ []) (add-by (lone-in xs) xs c)) (λ ys. tidy ys ≡ true) (λ e. t)
-      (λ e. cond-both (is-empty c) (empty ∷ []) (add-by (lone-in xs) xs c) (λ ys. tidy ys ≡ true) (λ e. refl) (λ e. by-tidy (lone-in xs) xs c t))
+    (λ e. cond-both (is-empty c) (empty ∷ []) (add-by (lone-in xs) xs c) (λ ys. tidy ys ≡ true) (λ e. refl) (λ e. by-tidy (lone-in xs) xs c t))

@@ -93,7 +93,10 @@ impl Clause {
     pub fn is_empty(self) -> bool
         ensures { λ r. ⌜ r ≡ is-empty self ⌝ }
     {
-        matches!((self.user, self.group), (UserLiteral::Absent, GroupLiteral::Absent))
+        matches!(
+            (self.user, self.group),
+            (UserLiteral::Absent, GroupLiteral::Absent)
+        )
     }
 
     // The user of a clause that is exactly "user is u".

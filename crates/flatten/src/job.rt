@@ -41,7 +41,7 @@ const NO_EXECUTE: Execute = Execute {
     others: false,
 };
 
-// The path so far, and whether a subject has asked.
+// The path so far, and whether it has ended: at the first subject, or at a line that is wrong.
 #[derive(Clone, Copy)]
 pub struct Job {
     path: Bounded<Directory, 16>,
@@ -65,16 +65,27 @@ impl Job {
         self.path.as_slice()
     }
 
+    // Whether the path has ended, with something to be told of it.
+    pub fn is_over(&self) -> bool {
+        self.ended
+    }
+
     // Takes one line in: a directory goes to the end of the path, a subject is handed on.
     pub fn read(&mut self, text: &[u8]) -> Result<Option<Asked>, Wrong> {
         match read_line(text) {
-            Err(bad) => Err(Wrong::Line(bad)),
+            Ok(Line::Directory { owner, group, mode }) => self.enter(owner, group, mode),
             Ok(Line::Subject { user, groups }) => {
                 self.ended = true;
                 Ok(Some(Asked { user, groups }))
             }
-            Ok(Line::Directory { owner, group, mode }) => self.enter(owner, group, mode),
+            Err(bad) => self.refuse(Wrong::Line(bad)),
         }
+    }
+
+    // A wrong line ends a path that has begun.
+    fn refuse(&mut self, wrong: Wrong) -> Result<Option<Asked>, Wrong> {
+        self.ended |= !self.path().is_empty();
+        Err(wrong)
     }
 
     fn enter(&mut self, owner: u16, group: u8, mode: u16) -> Result<Option<Asked>, Wrong> {
@@ -93,7 +104,55 @@ impl Job {
         if self.path.push(directory) {
             Ok(None)
         } else {
-            Err(Wrong::TooDeep)
+            self.refuse(Wrong::TooDeep)
         }
+    }
+}
+
+#[cfg(test)]
+mod tests {
+    use super::*;
+    use std::test::*;
+
+    // What became of a line, in a word.
+    fn outcome(read: Result<Option<Asked>, Wrong>) -> &'static str {
+        match read {
+            Ok(None) => "directory",
+            Ok(Some(_)) => "subject",
+            Err(Wrong::Line(_)) => "bad line",
+            Err(Wrong::TooDeep) => "too deep",
+            Err(Wrong::PathEnded) => "path ended",
+        }
+    }
+
+    #[test]
+    fn subjects_end_the_path() -> Result<(), Fail> {
+        let mut job = Job::new();
+        let lines: [(&[u8], &str); 5] = [
+            (b"who x", "bad line"),
+            (b"7 9 1710", "directory"),
+            (b"who 3", "subject"),
+            (b"0 0 755", "path ended"),
+            (b"who 3 9", "subject"),
+        ];
+        for (text, expected) in lines {
+            check_eq(outcome(job.read(text)), expected)?;
+        }
+        let [directory] = job.path() else {
+            return Err(Fail::new("not one directory"));
+        };
+        let execute = directory.execute;
+        check(directory.owner == 7 && directory.group == 9)?;
+        check(execute.owner && execute.group && !execute.others)
+    }
+
+    #[test]
+    fn seventeenth_directory() -> Result<(), Fail> {
+        let mut job = Job::new();
+        for number in 1..18 {
+            let expected = if number > 16 { "too deep" } else { "directory" };
+            check_eq(outcome(job.read(b"0 0 755")), expected)?;
+        }
+        check_eq(job.path().len(), 16)
     }
 }

@@ -23,13 +23,14 @@ module _ {F : Type 0} (m : Meaning F) where
 
   -- one directory more
   pub narrowed-more : (e f g : F) (ds : List Directory) (i : ℕ) (d : Directory) → i < length ds → d ≡ getD ds i d → f ≡ narrowed-by m e (take i ds)
-    → m .level f < 16 → g ≡ cond (ltb (m .level f) 16) (m .narrowed f d) f
-    → (g ≡ m .narrowed f d) × (g ≡ narrowed-by m e (take (i + 1) ds))
+      → m .level f < 16 → g ≡ cond (ltb (m .level f) 16) (m .narrowed f d) f
+      → (g ≡ m .narrowed f d) × (g ≡ narrowed-by m e (take (i + 1) ds))
   narrowed-more e f g ds i d within read was low after =
-      let one : g ≡ m .narrowed f d = after ∙ ap (λ b. cond b (m .narrowed f d) f) (lt-ltb _ _ low) in
-      ( one
-      , one ∙ ap (λ x. m .narrowed x d) was ∙ sym (narrowed-push e (take i ds) d)
-        ∙ ap (λ x. narrowed-by m e (take i ds ++ (x ∷ []))) read ∙ ap (narrowed-by m e) (sym (take-more ds i d within)) )
+      let one : g ≡ m .narrowed f d = after ∙ ap (λ b. cond b (m .narrowed f d) f) (lt-ltb _ _ low) in (
+        one,
+        one ∙ ap (λ x. m .narrowed x d) was ∙ sym (narrowed-push e (take i ds) d)
+            ∙ ap (λ x. narrowed-by m e (take i ds ++ (x ∷ []))) read ∙ ap (narrowed-by m e) (sym (take-more ds i d within)),
+      )
 
   pub flattened-ok : (ds : List Directory) (f : F) → length ds ≤ 16 → f ≡ narrowed-by m (m .everyone) ds → Ok f ≡ flattened m ds
   flattened-ok ds f h e =

@@ -16,7 +16,11 @@ impl Mode {
     pub fn new(bits: u16) -> Option<Mode>
         ensures { λ r. ⌜ Cases r (512 ≤ bits) (λ m. m .bits ≡ bits) ⌝ }
     {
-        if bits < 512 { Some(Mode { bits }) } else { None }
+        if bits < 512 {
+            Some(Mode { bits })
+        } else {
+            None
+        }
     }
 
     pub fn bits(self) -> u16

@@ -27,26 +27,32 @@ const EMPTY: Shape = Shape {
     user: Sign::Absent,
     group: Sign::Absent,
 };
+
 const NOT_OWNER: Shape = Shape {
     user: Sign::Negative,
     group: Sign::Absent,
 };
+
 const OWNER: Shape = Shape {
     user: Sign::Positive,
     group: Sign::Absent,
 };
+
 const OWNER_OR_MEMBER: Shape = Shape {
     user: Sign::Positive,
     group: Sign::Positive,
 };
+
 const OWNER_OR_STRANGER: Shape = Shape {
     user: Sign::Positive,
     group: Sign::Negative,
 };
+
 const MEMBER: Shape = Shape {
     user: Sign::Absent,
     group: Sign::Positive,
 };
+
 const STRANGER: Shape = Shape {
     user: Sign::Absent,
     group: Sign::Negative,

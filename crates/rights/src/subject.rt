@@ -36,6 +36,8 @@ impl Subject<'_> {
     pub fn may_search(&self, directory: &Directory) -> bool
         ensures { λ r. ⌜ r ≡ may (who-of (now (self .entry))) (now (directory .entry)) ⌝ }
     {
-        directory.execute.of(self.class(directory.owner, directory.group))
+        directory
+            .execute
+            .of(self.class(directory.owner, directory.group))
     }
 }

@@ -35,7 +35,7 @@ lawful = record {
   whole = λ w. refl;
   bounded = λ t. t .path .ok .0;
   deeper = λ t d low.
-    omega (arith, ap length (deeper-path t d low), length-push (directories t) d, length-listed (the-row .coded) (t .path), length-listed (the-row .coded) (trails .narrowed t d .path));
+      omega (arith, ap length (deeper-path t d low), length-push (directories t) d, length-listed (the-row .coded) (t .path), length-listed (the-row .coded) (trails .narrowed t d .path));
   narrower = λ t d w low. ap (may-all w) (deeper-path t d low) ∙ may-push w (directories t) d;
   equal = λ t u w e. absurd (false≢true e);
 }

@@ -83,7 +83,16 @@ fn every_pattern_for_every_class() -> Result<(), Fail> {
         let groups = if case % 2 == 1 { members } else { NO_GROUPS };
         let user = if case % 4 >= 2 { 7 } else { 8 };
         let expected = MAY[(case / 4) as usize][(case % 4) as usize];
-        check_eq(asked(&path, &Subject { user, groups: &groups })?, expected)?;
+        check_eq(
+            asked(
+                &path,
+                &Subject {
+                    user,
+                    groups: &groups,
+                },
+            )?,
+            expected,
+        )?;
     }
     Ok(())
 }
@@ -122,12 +131,21 @@ fn most_clauses() -> Result<(), Fail> {
     let record: Conjunctive = flatten(&path)?;
     check_eq(record.clauses.list.as_slice().len(), 32)?;
     let mut groups = NO_GROUPS;
-    let free = Subject { user: 17, groups: &NO_GROUPS };
+    let free = Subject {
+        user: 17,
+        groups: &NO_GROUPS,
+    };
     check(asked(&path, &free)?)?;
-    let owner = Subject { user: 16, groups: &NO_GROUPS };
+    let owner = Subject {
+        user: 16,
+        groups: &NO_GROUPS,
+    };
     check(!asked(&path, &owner)?)?;
     insert(&mut groups, 1);
-    let member = Subject { user: 17, groups: &groups };
+    let member = Subject {
+        user: 17,
+        groups: &groups,
+    };
     check(!asked(&path, &member)?)
 }
 
@@ -138,12 +156,21 @@ fn most_lines() -> Result<(), Fail> {
     let record: Disjunctive = flatten(&path)?;
     check_eq(record.lines.table.as_slice().len(), 16)?;
     let groups = all_groups_but(5);
-    let fifth = Subject { user: 5, groups: &groups };
+    let fifth = Subject {
+        user: 5,
+        groups: &groups,
+    };
     check(asked(&path, &fifth)?)?;
-    let sixth = Subject { user: 6, groups: &groups };
+    let sixth = Subject {
+        user: 6,
+        groups: &groups,
+    };
     check(!asked(&path, &sixth)?)?;
     let all = all_groups_but(0);
-    let stranger = Subject { user: 17, groups: &all };
+    let stranger = Subject {
+        user: 17,
+        groups: &all,
+    };
     check(asked(&path, &stranger)?)
 }
 
@@ -157,7 +184,10 @@ fn most_shut_out() -> Result<(), Fail> {
         None => return Err(Fail::new("no open line")),
     }
     for user in 1..18u16 {
-        let subject = Subject { user, groups: &NO_GROUPS };
+        let subject = Subject {
+            user,
+            groups: &NO_GROUPS,
+        };
         check_eq(asked(&path, &subject)?, user == 17)?;
     }
     Ok(())
@@ -191,7 +221,10 @@ fn long_paths_agree() -> Result<(), Fail> {
             insert(&mut groups, (case / 4 % 3) as u8);
         }
         let user = (case / 2 % 4) as u16;
-        let subject = Subject { user, groups: &groups };
+        let subject = Subject {
+            user,
+            groups: &groups,
+        };
         if asked(&path[0..depth], &subject)? {
             admitted = admitted.wrapping_add(1);
         }

@@ -29,7 +29,7 @@ loop-directory-again g c =
     let m = g .F·Form .meaning in
     let low = true-ltb _ _ (c .in-Continue-narrow .ensures tt .answer) in
     let next = narrowed-more m (m .everyone) (c .loop-directory .form) (c .narrow .last .self) (c .args .path .now) (c .loop-directory .directory-index) (c .directory-item .result)
-      (c .loop-directory-test .taken) (c .directory-item .is) (c .loop-directory .inv .1) low (c .narrow .ensures .after) in
+    (c .loop-directory-test .taken) (c .directory-item .is) (c .loop-directory .inv .1) low (c .narrow .ensures .after) in
     (ap (m .level) (next .0) ∙ g .F·Form·met .lawful .deeper _ _ low ∙ ap (λ n. n + 1) (c .loop-directory .inv .0), next .1)
 
 pub returns : need.returns

@@ -26,7 +26,7 @@ pub returns-then-covers : need.returns-then-covers
 returns-then-covers c =
     let was = c .args .self .now .list in
     from-listed (the-row .coded) was _
-      (sym (settled-covered (listed was) (c .args .clause) (c .if-has-empty .ensures tt) (c .if-is-empty .ensures tt) (c .in-rest .ensures tt) (c .if-covers .ensures tt)))
+    (sym (settled-covered (listed was) (c .args .clause) (c .if-has-empty .ensures tt) (c .if-is-empty .ensures tt) (c .in-rest .ensures tt) (c .if-covers .ensures tt)))
 
 pub returns-in-Some-lone-user : need.returns-in-Some-lone-user
 returns-in-Some-lone-user c =
@@ -34,11 +34,11 @@ returns-in-Some-lone-user c =
     let u = c .in-Some-lone-user .u in
     c .restart .ensures
     ∙ ap (packed 32 (was .filler))
-      (sym (settled-last (listed was) (c .args .clause) (c .if-has-empty .ensures tt) (c .if-is-empty .ensures tt) (Some u) (c .in-rest .ensures tt) (c .if-covers .ensures tt) (c .in-Some-lone-user .ensures tt)))
+    (sym (settled-last (listed was) (c .args .clause) (c .if-has-empty .ensures tt) (c .if-is-empty .ensures tt) (Some u) (c .in-rest .ensures tt) (c .if-covers .ensures tt) (c .in-Some-lone-user .ensures tt)))
 
 pub returns-in-None : need.returns-in-None
 returns-in-None c =
     let was = c .args .self .now .list in
     c .put-last .ensures
     ∙ ap (packed 32 (was .filler))
-      (sym (settled-last (listed was) (c .args .clause) (c .if-has-empty .ensures tt) (c .if-is-empty .ensures tt) None (c .in-rest .ensures tt) (c .if-covers .ensures tt) (c .in-None .ensures tt)))
+    (sym (settled-last (listed was) (c .args .clause) (c .if-has-empty .ensures tt) (c .if-is-empty .ensures tt) None (c .in-rest .ensures tt) (c .if-covers .ensures tt) (c .in-None .ensures tt)))

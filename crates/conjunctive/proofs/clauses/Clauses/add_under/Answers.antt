@@ -20,4 +20,4 @@ returns c =
     let was = c .args .self .now .list in
     c .put-left .ensures
     ∙ ap (packed 32 (was .filler))
-      (ap (put-left (listed was)) (c .struck .ensures) ∙ sym (cond-false _ _ _ (sym (c .if-has-empty .ensures tt)) ∙ cond-false _ _ _ (sym (c .if-is-empty .ensures tt))))
+    (ap (put-left (listed was)) (c .struck .ensures) ∙ sym (cond-false _ _ _ (sym (c .if-has-empty .ensures tt)) ∙ cond-false _ _ _ (sym (c .if-is-empty .ensures tt))))

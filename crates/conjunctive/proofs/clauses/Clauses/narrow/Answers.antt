@@ -27,23 +27,25 @@ loop-shape-again c =
     let i = c .loop-shape .shape-index in
     let within : i < length row = omega arith in
     elim (c .match-shape .came) [
-      in-Some w ↦
-        let shape = w .in-Some .shape in
-        let clause : Clause = record { user = w .of .result; group = w .of-in-Some .result } in
-        let filled : clause ≡ clause-of u g shape = ap₂ (λ a b. record { user = a; group = b }) (w .of .ensures) (w .of-in-Some .ensures) in
-        let after : t ≡ packed 32 (s .filler) (added (listed s) clause) = ap (λ x. x .list) (w .self-is) ∙ w .add .ensures in
-        let few : length (added (listed s) clause) ≤ s .count + 1 = omega (arith, added-le (listed s) clause, length-listed (the-row .coded) s) in
-        let room : length (added (listed s) clause) ≤ 32 = omega (arith, few, c .loop-shape .inv .1) in
-        let holds : listed t ≡ added (listed s) clause = ap listed after ∙ packed-listed (the-row .coded) (s .filler) (added (listed s) clause) room in
-        ( ap (λ b. b .filler) after ∙ c .loop-shape .inv .0
-        , omega (arith, ap length holds, few, length-listed (the-row .coded) t, c .loop-shape .inv .1)
-        , ap (λ xs. with-row u g xs (drop (i + 1) row)) (holds ∙ ap (added (listed s)) filled)
-          ∙ sym (past-clause u g (listed s) row i _ shape within (w .in-Some .is)) ∙ c .loop-shape .inv .2 )
-    | in-rest w ↦
-        ( ap (λ x. x .list .filler) (w .self-is) ∙ c .loop-shape .inv .0
-        , omega (arith, ap (λ x. x .list .count) (w .self-is), c .loop-shape .inv .1)
-        , ap (λ x. with-row u g (listed (x .list)) (drop (i + 1) row)) (w .self-is)
-          ∙ sym (past-none u g (listed s) row i _ within (w .in-rest .is)) ∙ c .loop-shape .inv .2 )
+      | in-Some w ↦
+          let shape = w .in-Some .shape in
+          let clause : Clause = record { user = w .of .result; group = w .of-in-Some .result } in
+          let filled : clause ≡ clause-of u g shape = ap₂ (λ a b. record { user = a; group = b }) (w .of .ensures) (w .of-in-Some .ensures) in
+          let after : t ≡ packed 32 (s .filler) (added (listed s) clause) = ap (λ x. x .list) (w .self-is) ∙ w .add .ensures in
+          let few : length (added (listed s) clause) ≤ s .count + 1 = omega (arith, added-le (listed s) clause, length-listed (the-row .coded) s) in
+          let room : length (added (listed s) clause) ≤ 32 = omega (arith, few, c .loop-shape .inv .1) in
+          let holds : listed t ≡ added (listed s) clause = ap listed after ∙ packed-listed (the-row .coded) (s .filler) (added (listed s) clause) room in (
+            ap (λ b. b .filler) after ∙ c .loop-shape .inv .0,
+            omega (arith, ap length holds, few, length-listed (the-row .coded) t, c .loop-shape .inv .1),
+            ap (λ xs. with-row u g xs (drop (i + 1) row)) (holds ∙ ap (added (listed s)) filled)
+                ∙ sym (past-clause u g (listed s) row i _ shape within (w .in-Some .is)) ∙ c .loop-shape .inv .2,
+          )
+      | in-rest w ↦ (
+        ap (λ x. x .list .filler) (w .self-is) ∙ c .loop-shape .inv .0,
+        omega (arith, ap (λ x. x .list .count) (w .self-is), c .loop-shape .inv .1),
+        ap (λ x. with-row u g (listed (x .list)) (drop (i + 1) row)) (w .self-is)
+            ∙ sym (past-none u g (listed s) row i _ within (w .in-rest .is)) ∙ c .loop-shape .inv .2,
+      )
     ]
 
 pub returns : need.returns

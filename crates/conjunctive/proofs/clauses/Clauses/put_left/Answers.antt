@@ -18,13 +18,13 @@ returns-then-not-covers c =
     let was = c .args .self .now .list in
     c .put-last .ensures
     ∙ ap (packed 32 (was .filler))
-      (sym (ap (put-left (listed was)) (c .in-Some .is) ∙ cond-false _ _ _ (sym (c .if-is-empty .ensures tt)) ∙ cond-false _ _ _ (sym (c .if-not-covers .ensures tt))))
+    (sym (ap (put-left (listed was)) (c .in-Some .is) ∙ cond-false _ _ _ (sym (c .if-is-empty .ensures tt)) ∙ cond-false _ _ _ (sym (c .if-not-covers .ensures tt))))
 
 pub returns-else-not-covers : need.returns-else-not-covers
 returns-else-not-covers c =
     let was = c .args .self .now .list in
     from-listed (the-row .coded) was _
-      (sym (ap (put-left (listed was)) (c .in-Some .is) ∙ cond-false _ _ _ (sym (c .if-is-empty .ensures tt)) ∙ cond-true _ _ _ (sym (c .if-not-covers .ensures tt))))
+    (sym (ap (put-left (listed was)) (c .in-Some .is) ∙ cond-false _ _ _ (sym (c .if-is-empty .ensures tt)) ∙ cond-true _ _ _ (sym (c .if-not-covers .ensures tt))))
 
 pub returns-in-rest : need.returns-in-rest
 returns-in-rest c =

@@ -25,7 +25,7 @@ loop-clause-again c =
     let so-far = all-under u (listed first) (take i items) in
     let one : length (listed first) ≤ 1 = omega (arith, ap (λ b. length (listed b)) (c .only .ensures)) in
     let room : length so-far ≤ 32 =
-      omega (arith, all-under-le u (listed first) (take i items), length-take i items, one, ap length (c .as-slice-clause-items .ensures), length-listed (the-row .coded) old, c .pre) in
+    omega (arith, all-under-le u (listed first) (take i items), length-take i items, one, ap length (c .as-slice-clause-items .ensures), length-listed (the-row .coded) old, c .pre) in
     let is : listed out ≡ so-far = ap listed (c .loop-clause .inv) ∙ packed-listed (the-row .coded) (first .filler) so-far room in
     c .add-under .ensures
     ∙ ap₂ (packed 32) (ap (λ b. b .filler) (c .loop-clause .inv)) (under-more u (listed first) items i _ (listed out) (c .loop-clause-test .taken) is)
@@ -35,4 +35,4 @@ returns c =
     let items = c .as-slice-clause-items .result .now in
     c .loop-clause .inv
     ∙ ap₂ (packed 32) (ap (λ b. b .filler) (c .only .ensures))
-      (ap₂ (all-under (c .args .u)) (ap listed (c .only .ensures)) (take-all (c .loop-clause .clause-index) items (c .loop-clause-test .left) ∙ c .as-slice-clause-items .ensures))
+    (ap₂ (all-under (c .args .u)) (ap listed (c .only .ensures)) (take-all (c .loop-clause .clause-index) items (c .loop-clause-test .left) ∙ c .as-slice-clause-items .ensures))

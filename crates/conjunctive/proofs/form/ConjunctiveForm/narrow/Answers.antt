@@ -21,7 +21,7 @@ ghost-self c =
     let few : length (clauses-after d (list-of r)) ≤ 2 * r .level + 2 = omega (arith, after-le d (list-of r), length-listed (the-row .coded) (r .clauses .list), r .ok .1) in
     let room : length (clauses-after d (list-of r)) ≤ 32 = omega (arith, few) in
     let holds : listed list ≡ clauses-after d (list-of r) =
-      ap listed (c .narrow .ensures) ∙ packed-listed (the-row .coded) (r .clauses .list .filler) (clauses-after d (list-of r)) room in
+    ap listed (c .narrow .ensures) ∙ packed-listed (the-row .coded) (r .clauses .list .filler) (clauses-after d (list-of r)) room in
     ((omega arith, omega (arith, few, ap length holds, length-listed (the-row .coded) list), ap tidy holds ∙ after-tidy d (list-of r) (r .ok .2)), tt)
 
 pub returns : need.returns
