@@ -1,6 +1,6 @@
 // The list itself: `count` items, and the filler in every place past them, so that equal lists are equal records.
 ghost use mathlib.Core.Path.{_≡_};
-ghost use Prim.Native.Nat.{ℕ, _-_, _≤_};
+ghost use Prim.Native.Nat.{_-_, _≤_};
 ghost use lib.ListN.{length, drop, replicate};
 use std::alloc::AllocError;
 

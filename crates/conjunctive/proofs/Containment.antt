@@ -1,7 +1,7 @@
 -- Which clauses lie within others.
 use mathlib.Core.Path.{_≡_, refl, ap₂}
 use mathlib.Core.List.{List, [], _∷_}
-use mathlib.Core.Bool.{Bool, true, false, _&&_, _||_}
+use mathlib.Core.Bool.{_&&_, _||_}
 use Rattle.bounded.specs.Tests.{any-of}
 use Rattle.conjunctive.specs.declared.clause.UserLiteral.{UserLiteral}
 use Rattle.conjunctive.specs.declared.clause.UserLiteral.the-variants as user

@@ -3,7 +3,7 @@ use mathlib.Core.Path.{_≡_, refl, sym, ap, ap₂, _∙_}
 use mathlib.Core.HLevel.{isProp→PathP}
 use mathlib.Core.List.{List, [], _∷_}
 use mathlib.Core.Bool.{Bool, true, false, _&&_}
-use Prim.Native.Nat.{ℕ, _+_, _*_, _≤_, _<_, min}
+use Prim.Native.Nat.{ℕ, _+_, _*_, _≤_, _<_}
 use native.Mathlib.Omega.{arith}
 use denote.Struct.Props.{props}
 use lib.ListN.{length, take}
@@ -12,7 +12,6 @@ use Rattle.std.proofs.shelf.Tests.{false≢true, and-parts}
 use Rattle.rights.specs.Subjects.{Who}
 use Rattle.rights.specs.Meaning.{Lawful}
 use Rattle.rights.specs.declared.directory.Directory.{Directory}
-use Rattle.bounded.specs.declared.list.Bounded.{Bounded}
 use Rattle.bounded.specs.Lists.{listed, packed}
 use Rattle.bounded.specs.Tests.{same-lists}
 use Rattle.bounded.proofs.Guards.{guarded-passes}

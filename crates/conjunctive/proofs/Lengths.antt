@@ -14,7 +14,7 @@ use Rattle.std.proofs.shelf.Tests.{cond-both}
 use Rattle.bounded.specs.Tests.{any-of}
 use Rattle.conjunctive.specs.declared.clause.Clause.{Clause}
 use Rattle.conjunctive.specs.Clauses.{within, empty, is-empty, lone, lone-in}
-use Rattle.conjunctive.specs.Adding.{struck, covers, ended, put, put-left, add-under, all-under, put-lone, add-by, added}
+use Rattle.conjunctive.specs.Adding.{struck, covers, ended, put-left, add-under, all-under, put-lone, add-by, added}
 
 cond-le : (b : Bool) (xs ys : List Clause) (n : ℕ) → length xs ≤ n → length ys ≤ n → length (cond b xs ys) ≤ n
 cond-le b xs ys n p q = cond-both b xs ys (λ zs. length zs ≤ n) (λ e. p) (λ e. q)

@@ -1,3 +1,4 @@
+pub mod Anew
 pub mod Containment
 pub mod Lawfulness
 pub mod Lengths

@@ -1,6 +1,6 @@
 -- Adding a clause leaves exactly the subjects of whom it holds: each rule keeps what the clauses say.
-use mathlib.Core.Path.{_≡_, refl, sym, ap, ap₂, _∙_}
-use mathlib.Core.List.{List, [], _∷_, _++_}
+use mathlib.Core.Path.{_≡_, refl, sym, ap, _∙_}
+use mathlib.Core.List.{List, [], _∷_}
 use mathlib.Core.Logic.{inl, inr}
 use mathlib.Core.Bool.{Bool, true, false, cond, not, _&&_, _||_, and-true, and-false, and-assoc, and-comm, or-false}
 use Prim.Native.Nat.{ℕ}
@@ -10,7 +10,7 @@ use Rattle.std.specs.declared.option.Option.{Option}
 use Rattle.std.specs.declared.option.Option.the-variants.{Some, None}
 use Rattle.std.specs.shelf.Lists.{kept-by}
 use Rattle.std.proofs.shelf.Tests.{false≢true, eqb-true, eqb-false, ne-eqb, not-false, and-parts, or-cases, or-left, or-right, cond-both}
-use Rattle.bounded.specs.Tests.{all-of, any-of}
+use Rattle.bounded.specs.Tests.{any-of}
 use Rattle.bounded.proofs.Loops.{all-append}
 use Rattle.rights.specs.Subjects.{Who}
 use Rattle.conjunctive.specs.declared.clause.UserLiteral.{UserLiteral}

@@ -1,6 +1,7 @@
 -- Adding a clause to a list of clauses, by the first rule that settles it.
+use mathlib.Core.Path.{_≡_}
 use mathlib.Core.List.{List, [], _∷_, _++_}
-use mathlib.Core.Bool.{Bool, true, false, cond, not}
+use mathlib.Core.Bool.{Bool, cond, not}
 use Prim.Native.Nat.{ℕ}
 use lib.Dec.{eqb}
 use Rattle.std.specs.shelf.Lists.{kept-by}
@@ -57,3 +58,12 @@ add-by None xs c = cond (covers xs c) xs (put-lone xs c (lone c))
 -- rule 1: a list with the empty clause stays; rule 2: an empty clause replaces the whole list; else rules 3 to 6
 abbrev pub added : List Clause → Clause → List Clause
 added xs c = cond (any-of is-empty xs) xs (cond (is-empty c) (empty ∷ []) (add-by (lone-in xs) xs c))
+
+-- clauses added one after another, by all the rules
+abbrev pub all-added : List Clause → List Clause → List Clause
+all-added xs [] = xs
+all-added xs (c ∷ cs) = all-added (added xs c) cs
+
+-- what rule 5 makes of the old clauses is what all the rules make of them
+abbrev pub Begins-anew : Type 0
+Begins-anew = (u : ℕ) (c : Clause) (xs : List Clause) → lone c ≡ Some u → all-under u (c ∷ []) xs ≡ all-added (c ∷ []) xs

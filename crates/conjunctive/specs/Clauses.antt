@@ -8,7 +8,7 @@ use Rattle.std.specs.declared.option.Option.{Option}
 use Rattle.std.specs.declared.option.Option.the-variants.{Some, None}
 use Rattle.groups.specs.Groups.{member}
 use Rattle.rights.specs.Subjects.{Who}
-use Rattle.bounded.specs.Tests.{all-of, any-of}
+use Rattle.bounded.specs.Tests.{all-of}
 use Rattle.conjunctive.specs.declared.clause.UserLiteral.{UserLiteral}
 use Rattle.conjunctive.specs.declared.clause.UserLiteral.the-variants as user
 use Rattle.conjunctive.specs.declared.clause.GroupLiteral.{GroupLiteral}

@@ -3,6 +3,7 @@ ghost use mathlib.Core.Path.{_≡_};
 ghost use mathlib.Core.Bool.{cond};
 ghost use lib.Dec.{ltb};
 ghost use Rattle.std.specs.Results.{isOk};
+ghost use Rattle.conjunctive.specs.Adding.{Begins-anew};
 ghost use Rattle.conjunctive.specs.Requirement.{conjunctions, list-of, clauses-after};
 use crate::asked::ClauseAlike;
 use crate::clause::Clause;
@@ -35,6 +36,7 @@ pub impl Form for Conjunctive as ConjunctiveForm {
         ensures answer { λ r. ⌜ isOk r ≡ ltb (conjunctions .level (now (self .entry))) 16 ⌝ }
         ensures after { λ r. ⌜ now (self .exit) ≡ cond (ltb (conjunctions .level (now (self .entry))) 16) (conjunctions .narrowed (now (self .entry)) (now (directory .entry))) (now (self .entry)) ⌝ }
         ensures list { λ r. ⌜ list-of (now (self .exit)) ≡ cond (ltb (now (self .entry) .level) 16) (clauses-after (now (directory .entry)) (list-of (now (self .entry)))) (list-of (now (self .entry))) ⌝ }
+        ensures anew { λ _. ⌜ Begins-anew ⌝ }
     {
         if self.level >= 16 {
             return Err(TooDeep);

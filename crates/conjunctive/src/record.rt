@@ -1,8 +1,7 @@
 // The conjunctive record: no clause contains another, at most one is a lone "user is u", and there are at most two for each level.
 ghost use mathlib.Core.Path.{_≡_};
 ghost use mathlib.Core.Bool.{true};
-ghost use Prim.Native.Nat.{ℕ, _*_, _≤_};
-ghost use lib.ListN.{length};
+ghost use Prim.Native.Nat.{_*_, _≤_};
 ghost use Rattle.bounded.specs.Lists.{listed};
 ghost use Rattle.conjunctive.specs.Clauses.{tidy};
 use crate::clauses::Clauses;

@@ -1,8 +1,8 @@
 // Adding a clause to the list, by the first rule that settles it.
 ghost use mathlib.Core.Path.{_≡_};
-ghost use mathlib.Core.List.{List, [], _∷_};
+ghost use mathlib.Core.List.{[], _∷_};
 ghost use mathlib.Core.Bool.{not};
-ghost use Prim.Native.Nat.{ℕ, _+_, _<_, _≤_};
+ghost use Prim.Native.Nat.{_<_, _≤_};
 ghost use Rattle.bounded.specs.Lists.{listed, packed};
 ghost use Rattle.bounded.specs.Tests.{any-of};
 ghost use Rattle.conjunctive.specs.Clauses.{within, is-empty, lone-in};

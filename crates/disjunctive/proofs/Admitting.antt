@@ -15,13 +15,13 @@ use Rattle.rights.specs.Classes.{class-by, execute-of}
 use Rattle.rights.specs.declared.directory.Directory.{Directory}
 use Rattle.rights.specs.declared.execute.Execute.{Execute}
 use Rattle.bounded.proofs.Loops.{any-append}
-use Rattle.disjunctive.specs.declared.line.Line.{Line}
-use Rattle.disjunctive.specs.declared.line.UserLine.{UserLine}
-use Rattle.disjunctive.specs.declared.line.OpenLine.{OpenLine}
-use Rattle.disjunctive.specs.Lines.{line-admits, lines-admit, open-admits, shut-out, within}
-use Rattle.disjunctive.specs.Moves.{treated, treated-by, its-line, move-1, consistent, move-4-open, covered, move-4}
+use Rattle.lines.specs.declared.line.Line.{Line}
+use Rattle.lines.specs.declared.line.UserLine.{UserLine}
+use Rattle.lines.specs.declared.line.OpenLine.{OpenLine}
+use Rattle.lines.specs.Lines.{line-admits, lines-admit, open-admits, shut-out, within}
+use Rattle.lines.specs.Moves.{treated, treated-by, its-line, move-1, consistent, move-4-open, covered, move-4}
 use Rattle.disjunctive.proofs.Bools.{and-same, cond-same, refuted}
-use Rattle.disjunctive.proofs.Pieces.{piece}
+use Rattle.lines.proofs.Pieces.{piece}
 use Rattle.disjunctive.proofs.Tested.{any-kept-or}
 
 -- whether a user line admits a subject

@@ -13,12 +13,13 @@ use Rattle.rights.specs.Meaning.{Lawful}
 use Rattle.rights.specs.declared.directory.Directory.{Directory}
 use Rattle.bounded.specs.Lists.{listed}
 use Rattle.bounded.specs.Tests.{same-lists}
-use Rattle.disjunctive.specs.declared.line.Line.{Line}
-use Rattle.disjunctive.specs.declared.line.UserLine.{UserLine}
-use Rattle.disjunctive.specs.declared.line.OpenLine.{OpenLine}
+use Rattle.lines.specs.declared.line.Line.{Line}
+use Rattle.lines.specs.declared.line.UserLine.{UserLine}
+use Rattle.lines.specs.declared.line.OpenLine.{OpenLine}
 use Rattle.disjunctive.specs.declared.record.Disjunctive.{Disjunctive}
-use Rattle.disjunctive.specs.Lines.{line-admits, lines-admit, open-admits, has, within}
-use Rattle.disjunctive.specs.Requirement.{list-of, narrowed, same-sets, same-open, same-line, disjunctions}
+use Rattle.lines.specs.Lines.{line-admits, lines-admit, open-admits, has, within}
+use Rattle.lines.specs.Lines.{same-sets, same-open, same-line}
+use Rattle.disjunctive.specs.Requirement.{list-of, narrowed, disjunctions}
 use Rattle.disjunctive.proofs.Bools.{same-by}
 use Rattle.disjunctive.proofs.Admitting.{admits-within}
 use Rattle.disjunctive.proofs.Narrowing.{narrow-law}

@@ -5,9 +5,6 @@ pub mod Moved
 pub mod Narrowed
 pub mod Narrowing
 pub mod Ordered
-pub mod Pieces
-pub mod Records
 pub mod Shutting
 pub mod Tested
 pub mod Tidying
-pub mod Turns

@@ -10,11 +10,11 @@ use Rattle.rights.specs.declared.directory.Directory.{Directory}
 use Rattle.bounded.specs.declared.list.Bounded.{Bounded}
 use Rattle.bounded.specs.Lists.{listed, packed}
 use Rattle.bounded.proofs.Packing.{packed-listed}
-use Rattle.disjunctive.specs.contracts.line.UserLine.{the-row}
-use Rattle.disjunctive.specs.declared.line.UserLine.{UserLine}
-use Rattle.disjunctive.specs.declared.line.OpenLine.{OpenLine}
+use Rattle.lines.specs.contracts.line.UserLine.{the-row}
+use Rattle.lines.specs.declared.line.UserLine.{UserLine}
+use Rattle.lines.specs.declared.line.OpenLine.{OpenLine}
 use Rattle.disjunctive.specs.declared.record.Disjunctive.{Disjunctive}
-use Rattle.disjunctive.specs.Moves.{move-1, move-2, move-4, lines-after, open-after}
+use Rattle.lines.specs.Moves.{move-1, move-2, move-4, lines-after, open-after}
 use Rattle.disjunctive.specs.Requirement.{list-of}
 use Rattle.disjunctive.proofs.Tidying.{length-move-1, length-move-2}
 

@@ -13,12 +13,12 @@ use Rattle.rights.specs.declared.directory.Directory.{Directory}
 use Rattle.bounded.specs.Lists.{listed, packed}
 use Rattle.bounded.proofs.Guards.{guarded-passes}
 use Rattle.bounded.proofs.Packing.{packed-listed}
-use Rattle.disjunctive.specs.contracts.line.UserLine.{the-row}
-use Rattle.disjunctive.specs.declared.line.OpenLine.{OpenLine}
-use Rattle.disjunctive.specs.declared.lines.Lines.{Lines}
+use Rattle.lines.specs.contracts.line.UserLine.{the-row}
+use Rattle.lines.specs.declared.line.OpenLine.{OpenLine}
+use Rattle.lines.specs.declared.table.Lines.{Lines}
 use Rattle.disjunctive.specs.declared.record.Disjunctive.{Disjunctive, ok-type}
-use Rattle.disjunctive.specs.Lines.{tidy}
-use Rattle.disjunctive.specs.Moves.{lines-after, open-after}
+use Rattle.lines.specs.Lines.{tidy}
+use Rattle.lines.specs.Moves.{lines-after, open-after}
 use Rattle.disjunctive.specs.Requirement.{list-of, narrowed}
 use Rattle.disjunctive.proofs.Tidying.{tidy-after}
 

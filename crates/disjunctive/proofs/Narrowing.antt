@@ -15,15 +15,15 @@ use Rattle.rights.specs.Subjects.{Who, may}
 use Rattle.rights.specs.declared.directory.Directory.{Directory}
 use Rattle.bounded.specs.Lists.{listed}
 use Rattle.bounded.specs.Tests.{all-of, any-of}
-use Rattle.disjunctive.specs.declared.line.Line.{Line}
-use Rattle.disjunctive.specs.declared.line.UserLine.{UserLine}
-use Rattle.disjunctive.specs.declared.line.OpenLine.{OpenLine}
-use Rattle.disjunctive.specs.Lines.{line-admits, lines-admit, open-admits, has, shut-out, users, within, rising, tidy, open-tidy}
+use Rattle.lines.specs.declared.line.Line.{Line}
+use Rattle.lines.specs.declared.line.UserLine.{UserLine}
+use Rattle.lines.specs.declared.line.OpenLine.{OpenLine}
+use Rattle.lines.specs.Lines.{line-admits, lines-admit, open-admits, has, shut-out, users, within, rising, tidy, open-tidy}
 use Rattle.bounded.specs.Places.{placed}
-use Rattle.disjunctive.specs.Moves.{treated-by, line-of, move-1, move-2, move-3, reopened, open-after, lines-after}
+use Rattle.lines.specs.Moves.{treated-by, line-of, move-1, move-2, move-3, reopened, open-after, lines-after}
 use Rattle.disjunctive.proofs.Bools.{shown}
 use Rattle.disjunctive.proofs.Tested.{any-none, any-placed, any-where, none-any}
-use Rattle.disjunctive.proofs.Pieces.{all-users, beside, given}
+use Rattle.lines.proofs.Pieces.{all-users, beside, given}
 use Rattle.disjunctive.proofs.Shutting.{shut-law}
 use Rattle.disjunctive.proofs.Admitting.{passes, rest-admits, treated-law, move-1-law, move-4-open-law, move-4-law, admits-within, class-rule}
 

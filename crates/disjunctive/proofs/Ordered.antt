@@ -9,7 +9,7 @@ use lib.ListN.{length, length-append}
 use Rattle.std.specs.shelf.Lists.{All, kept-by}
 use Rattle.std.proofs.shelf.Elements.{all-append, all-kept-by, all-weaker, kept-by-passes}
 use Rattle.std.proofs.shelf.Tests.{and-from, and-parts, both-ways, lt-ltb, ltb-true}
-use Rattle.disjunctive.specs.Lines.{above, rising}
+use Rattle.lines.specs.Lines.{above, rising}
 use Rattle.bounded.specs.Places.{placed}
 
 module _ {X : Type 0} where

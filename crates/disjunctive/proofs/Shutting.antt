@@ -11,11 +11,11 @@ use Rattle.std.proofs.shelf.Ways.{tells}
 use Rattle.bounded.specs.Lists.{listed, packed}
 use Rattle.bounded.specs.Tests.{any-of}
 use Rattle.bounded.proofs.Packing.{packed-listed}
-use Rattle.disjunctive.specs.declared.line.Line.{Line}
-use Rattle.disjunctive.specs.declared.line.OpenLine.{OpenLine}
-use Rattle.disjunctive.specs.Lines.{has, shut-out}
+use Rattle.lines.specs.declared.line.Line.{Line}
+use Rattle.lines.specs.declared.line.OpenLine.{OpenLine}
+use Rattle.lines.specs.Lines.{has, shut-out}
 use Rattle.bounded.specs.Places.{placed}
-use Rattle.disjunctive.specs.Moves.{shut-with}
+use Rattle.lines.specs.Moves.{shut-with}
 use Rattle.disjunctive.proofs.Tested.{any-placed}
 use Rattle.disjunctive.proofs.Ordered.{length-placed}
 

@@ -17,14 +17,14 @@ use Rattle.groups.proofs.Sets.{subset-refl, subset-trans, subset-grows, subset-
 use Rattle.rights.specs.declared.directory.Directory.{Directory}
 use Rattle.bounded.specs.Lists.{listed}
 use Rattle.bounded.specs.Tests.{all-of}
-use Rattle.disjunctive.specs.declared.line.Line.{Line}
-use Rattle.disjunctive.specs.declared.line.UserLine.{UserLine}
-use Rattle.disjunctive.specs.declared.line.OpenLine.{OpenLine}
-use Rattle.disjunctive.specs.Lines.{has, shut-out, users, within, rising, tidy, open-tidy}
+use Rattle.lines.specs.declared.line.Line.{Line}
+use Rattle.lines.specs.declared.line.UserLine.{UserLine}
+use Rattle.lines.specs.declared.line.OpenLine.{OpenLine}
+use Rattle.lines.specs.Lines.{has, shut-out, users, within, rising, tidy, open-tidy}
 use Rattle.bounded.specs.Places.{placed}
-use Rattle.disjunctive.specs.Moves.{treated, treated-by, line-of, its-line, move-1, move-2, shut-with, reopened, consistent, covered, move-4, move-4-open, open-after, lines-after}
+use Rattle.lines.specs.Moves.{treated, treated-by, line-of, its-line, move-1, move-2, shut-with, reopened, consistent, covered, move-4, move-4-open, open-after, lines-after}
 use Rattle.disjunctive.proofs.Ordered.{length-kept, length-placed, all-placed, Below, Rises, rises-append, rises-kept, rises-placed, rises-from, rising-from}
-use Rattle.disjunctive.proofs.Pieces.{piece, piece-by, all-move-1, all-users, beside, given}
+use Rattle.lines.proofs.Pieces.{piece, piece-by, all-move-1, all-users, beside, given}
 use Rattle.disjunctive.proofs.Shutting.{shut-placed, shut-law}
 use Rattle.disjunctive.proofs.Admitting.{within-parts}
 

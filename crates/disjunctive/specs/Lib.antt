@@ -1,4 +1,1 @@
-pub mod Lines
-pub mod Moves
 pub mod Requirement
-pub mod Steps

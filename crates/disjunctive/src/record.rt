@@ -1,11 +1,11 @@
 // The disjunctive record.
 ghost use mathlib.Core.Path.{_≡_};
 ghost use mathlib.Core.Bool.{true};
-ghost use Prim.Native.Nat.{ℕ, _≤_};
+ghost use Prim.Native.Nat.{_≤_};
 ghost use Rattle.bounded.specs.Lists.{listed};
-ghost use Rattle.disjunctive.specs.Lines.{tidy};
-use crate::line::OpenLine;
-use crate::lines::Lines;
+ghost use Rattle.lines.specs.Lines.{tidy};
+use lines::line::OpenLine;
+use lines::table::Lines;
 
 #[derive(Clone, Copy)]
 pub struct Disjunctive {

@@ -17,9 +17,7 @@ use Rattle.conjunctive.specs.declared.clause.GroupLiteral.the-variants as group
 use Rattle.conjunctive.specs.declared.clause.Clause.{Clause}
 use Rattle.conjunctive.specs.Clauses.{empty}
 use Rattle.conjunctive.specs.Requirement.{conjunctions, list-of as clauses-of}
-use Rattle.disjunctive.specs.declared.line.Line.{Line}
-use Rattle.disjunctive.specs.declared.line.UserLine.{UserLine}
-use Rattle.disjunctive.specs.declared.line.OpenLine.{OpenLine}
+use Rattle.lines.specs.declared.line.OpenLine.{OpenLine}
 use Rattle.disjunctive.specs.Requirement.{disjunctions, list-of as lines-of}
 
 -- a directory by its owner, its group and the execute bits of owner, group and others

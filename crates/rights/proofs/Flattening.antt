@@ -8,7 +8,6 @@ use borrow.Author.Tests.{le-leb, lt-leb, lt-ltb}
 use lib.Dec.{ltb}
 use lib.ListN.{length, take, getD}
 use Rattle.std.proofs.shelf.Lists.{take-more}
-use Rattle.std.specs.declared.result.Result.{Result}
 use Rattle.std.specs.declared.result.Result.the-variants.{Ok, Err}
 use Rattle.rights.specs.declared.directory.Directory.{Directory}
 use Rattle.rights.specs.declared.form.TooDeep.{TooDeep}

@@ -1,5 +1,5 @@
 // A directory, as far as searching it goes.
-ghost use Prim.Native.Nat.{ℕ, _<_};
+ghost use Prim.Native.Nat.{_<_};
 use crate::execute::Execute;
 
 #[derive(Clone, Copy)]

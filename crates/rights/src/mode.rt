@@ -1,6 +1,6 @@
 // The nine permission bits of a file: read 4, write 2, execute 1, for owner, group and others.
 ghost use mathlib.Core.Path.{_≡_};
-ghost use Prim.Native.Nat.{ℕ, _<_, _≤_};
+ghost use Prim.Native.Nat.{_<_, _≤_};
 ghost use Rattle.std.specs.Options.{Cases};
 ghost use Rattle.rights.specs.Modes.{class-bits, execute-bits};
 use crate::class::Class;

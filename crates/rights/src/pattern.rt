@@ -1,8 +1,7 @@
 // The eight patterns of execute bits, and the clauses that say who may search.
 ghost use mathlib.Core.Path.{_≡_};
-ghost use mathlib.Core.Bool.{Bool};
 ghost use mathlib.Core.List.{[]};
-ghost use Prim.Native.Nat.{ℕ, _<_};
+ghost use Prim.Native.Nat.{_<_};
 ghost use lib.ListN.{getD};
 ghost use Rattle.rights.specs.Patterns.{place, rows, Agrees};
 use crate::execute::Execute;

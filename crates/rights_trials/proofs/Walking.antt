@@ -1,7 +1,7 @@
 -- A trail keeps the laws of a form.
 use mathlib.Core.Path.{_≡_, refl, sym, ap, _∙_}
 use mathlib.Core.List.{List, [], _∷_, _++_}
-use mathlib.Core.Bool.{Bool, _&&_, and-true, and-assoc}
+use mathlib.Core.Bool.{_&&_, and-true, and-assoc}
 use Prim.Native.Nat.{ℕ, _+_, _<_, _≤_}
 use native.Mathlib.Omega.{arith}
 use lib.ListN.{length, drop, getD}
@@ -12,7 +12,6 @@ use Rattle.rights.specs.declared.directory.Directory.{Directory}
 use Rattle.rights.specs.Subjects.{Who, may}
 use Rattle.rights.specs.Meaning.{Lawful}
 use Rattle.rights.specs.Paths.{may-all}
-use Rattle.bounded.specs.Lists.{listed, packed}
 use Rattle.bounded.proofs.Packing.{packed-listed, length-listed}
 use Rattle.rights_trials.specs.declared.trail.Trail.{Trail}
 use Rattle.rights_trials.specs.Trails.{directories, trails}

@@ -2,7 +2,6 @@
 use mathlib.Core.List.{List, [], _∷_, _++_}
 use mathlib.Core.Bool.{false}
 use native.Mathlib.Omega.{arith}
-use lib.ListN.{length}
 use Rattle.rights.specs.declared.directory.Directory.{Directory}
 use Rattle.rights.specs.Meaning.{Meaning}
 use Rattle.rights.specs.Paths.{may-all}

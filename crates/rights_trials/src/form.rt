@@ -1,5 +1,4 @@
 // The trail of directories as a form: it is walked for each subject, and never said to be the same as another.
-ghost use mathlib.Core.Path.{_≡_};
 ghost use Rattle.rights_trials.specs.Trails.{trails};
 use crate::trail::Trail;
 use bounded::list::Bounded;

@@ -14,9 +14,9 @@ use Rattle.conjunctive.specs.declared.clause.UserLiteral.the-variants as user
 use Rattle.conjunctive.specs.declared.clause.GroupLiteral.{GroupLiteral}
 use Rattle.conjunctive.specs.declared.clause.GroupLiteral.the-variants as group
 use Rattle.conjunctive.specs.declared.clause.Clause.{Clause}
-use Rattle.disjunctive.specs.declared.line.Line.{Line}
-use Rattle.disjunctive.specs.declared.line.UserLine.{UserLine}
-use Rattle.disjunctive.specs.declared.line.OpenLine.{OpenLine}
+use Rattle.lines.specs.declared.line.Line.{Line}
+use Rattle.lines.specs.declared.line.UserLine.{UserLine}
+use Rattle.lines.specs.declared.line.OpenLine.{OpenLine}
 
 -- two texts with a mark between them, or the one that is there, or another text where neither is
 abbrev pub marked : List ℕ → List ℕ → List ℕ → List ℕ → List ℕ

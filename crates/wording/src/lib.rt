@@ -18,12 +18,12 @@ mod tests {
     use conjunctive::clause::Clause;
     use conjunctive::clause::GroupLiteral;
     use conjunctive::clause::UserLiteral;
-    use disjunctive::line::Line;
-    use disjunctive::line::OpenLine;
-    use disjunctive::line::UserLine;
     use groups::GroupSet;
     use groups::NO_GROUPS;
     use groups::insert;
+    use lines::line::Line;
+    use lines::line::OpenLine;
+    use lines::line::UserLine;
     use std::alloc::Global;
     use std::fmt::Display;
     use std::test::*;

@@ -7,11 +7,11 @@ use crate::numbers::Groups;
 use crate::numbers::GroupsDisplay;
 use crate::numbers::Users;
 use crate::numbers::UsersDisplay;
-use disjunctive::line::Line;
-use disjunctive::line::OpenLine;
-use disjunctive::line::UserLine;
 use groups::NO_GROUPS;
 use groups::is_subset;
+use lines::line::Line;
+use lines::line::OpenLine;
+use lines::line::UserLine;
 use std::fmt;
 
 pub impl fmt::Display for InWords<'_, Line> as LineDisplay {

@@ -1,11 +1,10 @@
-use mathlib.Core.Path.{_≡_, sym, ap, _∙_}
+use mathlib.Core.Path.{_≡_, ap, _∙_}
 use Prim.Native.Nat.{_+_, _<_, _≤_}
 use native.Mathlib.Omega.{arith}
 use borrow.Author.Tests.{false-ltb, true-ltb}
-use lib.ListN.{length, take, getD}
+use lib.ListN.{length, take}
 use lib.Seq.{take-all}
 use Rattle.std.proofs.shelf.Results.{err-from-errBy}
-use Rattle.rights.specs.Subjects.{Who}
 use Rattle.rights.specs.Paths.{narrowed-by}
 use Rattle.rights.proofs.Flattening.{narrowed-more, flattened-ok, flattened-err, admits-flattened}
 use Rattle.rights.proofs.path.flatten.Needs as need

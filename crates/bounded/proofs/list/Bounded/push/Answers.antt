@@ -1,8 +1,7 @@
-use mathlib.Core.Path.{_≡_, refl, sym, ap, _∙_}
+use mathlib.Core.Path.{_∙_}
 use Prim.Native.Nat.{_<_}
 use native.Mathlib.Omega.{arith}
 use borrow.Author.Tests.{lt-true, le-false}
-use lib.Dec.{ltb}
 use lib.ListN.{length, length-set}
 use Rattle.std.proofs.shelf.Lists.{take-more-set}
 use Rattle.bounded.proofs.Packing.{length-listed, from-listed, from-full, padded}

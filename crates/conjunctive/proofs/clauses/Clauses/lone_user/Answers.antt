@@ -1,8 +1,8 @@
-use mathlib.Core.Path.{_≡_, refl, sym, ap, _∙_}
-use lib.ListN.{drop, getD}
+use mathlib.Core.Path.{sym, ap, _∙_}
+use lib.ListN.{drop}
 use Prim.Native.Nat.{_+_}
 use Rattle.std.proofs.shelf.Lists.{at-drop-more, at-drop-all}
-use Rattle.conjunctive.specs.Clauses.{or-else, lone, lone-in}
+use Rattle.conjunctive.specs.Clauses.{or-else, lone-in}
 use Rattle.conjunctive.proofs.clauses.Clauses.lone_user.Needs as need
 
 pub returns-in-Some : need.returns-in-Some

@@ -1,11 +1,9 @@
-use mathlib.Core.Path.{_≡_, refl, sym, ap, _∙_}
-use mathlib.Core.List.{[], _∷_}
+use mathlib.Core.Path.{sym, ap, _∙_}
 use Rattle.std.proofs.shelf.Tests.{cond-true, cond-false}
 use Rattle.bounded.specs.Lists.{listed, packed}
 use Rattle.bounded.proofs.Packing.{from-listed}
 use Rattle.conjunctive.specs.contracts.clause.Clause.{the-row}
-use Rattle.conjunctive.specs.Clauses.{empty}
-use Rattle.conjunctive.specs.Adding.{put, ended, put-left}
+use Rattle.conjunctive.specs.Adding.{put-left}
 use Rattle.conjunctive.proofs.clauses.Clauses.put_left.Needs as need
 
 pub returns-then-is-empty : need.returns-then-is-empty

@@ -2,8 +2,7 @@ use mathlib.Core.Path.{refl, ap, ap₂, _∙_}
 use mathlib.Core.List.{[]}
 use Rattle.std.specs.declared.option.Option.the-variants.{Some}
 use Rattle.bounded.specs.Lists.{packed}
-use Rattle.disjunctive.specs.declared.line.OpenLine.{OpenLine}
-use Rattle.disjunctive.specs.Moves.{line-of}
+use Rattle.lines.specs.Moves.{line-of}
 use Rattle.disjunctive.specs.Requirement.{everyone}
 use Rattle.disjunctive.proofs.Narrowed.{same-record}
 use Rattle.disjunctive.proofs.form.DisjunctiveForm.everyone.Needs as need

@@ -1,9 +1,9 @@
-use mathlib.Core.Path.{_≡_, refl, ap, ap₂, sym, _∙_}
+use mathlib.Core.Path.{refl, ap, ap₂, sym, _∙_}
 use Prim.Native.Nat.{_+_, _<_}
 use native.Mathlib.Omega.{arith}
 use Rattle.std.proofs.shelf.Tests.{lt-ltb, cond-below}
-use Rattle.bounded.specs.Lists.{listed, packed}
-use Rattle.disjunctive.specs.Lines.{tidy}
+use Rattle.bounded.specs.Lists.{listed}
+use Rattle.lines.specs.Lines.{tidy}
 use Rattle.disjunctive.proofs.Moved.{table-after}
 use Rattle.disjunctive.proofs.Narrowed.{narrowed-is, after, packs}
 use Rattle.disjunctive.proofs.form.DisjunctiveForm.narrow.Needs as need

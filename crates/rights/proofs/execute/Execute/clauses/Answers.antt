@@ -1,4 +1,4 @@
-use mathlib.Core.Path.{_≡_, refl, sym, ap, subst, _∙_}
+use mathlib.Core.Path.{sym, ap, subst}
 use mathlib.Core.List.{[]}
 use lib.ListN.{getD}
 use Rattle.rights.specs.Patterns.{rows, place, Agrees}
