@@ -1,3 +1,4 @@
+pub mod Bools
 pub mod Guards
 pub mod Loops
 pub mod Packing

@@ -1,8 +1,8 @@
 -- The conjunctive record keeps the laws of a form.
-use mathlib.Core.Path.{_≡_, refl, sym, ap, ap₂, _∙_}
+use mathlib.Core.Path.{_≡_, refl, ap, ap₂, _∙_}
 use mathlib.Core.HLevel.{isProp→PathP}
 use mathlib.Core.List.{List, [], _∷_}
-use mathlib.Core.Bool.{Bool, true, false, _&&_}
+use mathlib.Core.Bool.{true, false, _&&_}
 use Prim.Native.Nat.{ℕ, _+_, _*_, _≤_, _<_}
 use native.Mathlib.Omega.{arith}
 use denote.Struct.Props.{props}
@@ -14,6 +14,7 @@ use Rattle.rights.specs.Meaning.{Lawful}
 use Rattle.rights.specs.declared.directory.Directory.{Directory}
 use Rattle.bounded.specs.Lists.{listed, packed}
 use Rattle.bounded.specs.Tests.{same-lists}
+use Rattle.bounded.proofs.Bools.{same-by}
 use Rattle.bounded.proofs.Guards.{guarded-passes}
 use Rattle.bounded.proofs.Packing.{packed-listed, length-listed}
 use Rattle.conjunctive.specs.contracts.clause.Clause.{the-row}
@@ -72,11 +73,6 @@ same-says (x ∷ xs) (y ∷ ys) w e =
     let parts = and-parts (same-clause x y) (same-lists same-clause xs ys) e in
     let each = and-parts (within x y) (within y x) (parts .0) in
     ap₂ _&&_ (same-by (holds x w) (holds y w) (more w x y (each .0)) (more w y x (each .1))) (same-says xs ys w (parts .1))
-  where
-    same-by : (a b : Bool) → (a ≡ true → b ≡ true) → (b ≡ true → a ≡ true) → a ≡ b
-    same-by true b f g = sym (f refl)
-    same-by false true f g = g refl
-    same-by false false f g = refl
 
 pub lawful : Lawful conjunctions
 lawful = record {

@@ -11,6 +11,7 @@ use Rattle.std.specs.declared.option.Option.the-variants.{Some, None}
 use Rattle.std.specs.shelf.Lists.{kept-by}
 use Rattle.std.proofs.shelf.Tests.{false≢true, eqb-true, eqb-false, ne-eqb, not-false, and-parts, or-cases, or-left, or-right, cond-both}
 use Rattle.bounded.specs.Tests.{any-of}
+use Rattle.bounded.proofs.Bools.{and-implied, and-same}
 use Rattle.bounded.proofs.Loops.{all-append}
 use Rattle.rights.specs.Subjects.{Who}
 use Rattle.conjunctive.specs.declared.clause.UserLiteral.{UserLiteral}
@@ -22,16 +23,8 @@ use Rattle.conjunctive.specs.Clauses.{user-holds, group-holds, holds, all-hold
 use Rattle.conjunctive.specs.Adding.{struck, covers, ended, put, put-left, add-under, all-under, put-lone, add-by, added}
 
 -- one test beside another that it implies
-and-implied : (a b : Bool) → (a ≡ true → b ≡ true) → a ≡ (a && b)
-and-implied true b f = sym (f refl)
-and-implied false b f = refl
-
-and-same-right : (a b c : Bool) → (a ≡ true → b ≡ c) → (a && b) ≡ (a && c)
-and-same-right true b c f = f refl
-and-same-right false b c f = refl
-
-and-same-left : (a b c : Bool) → (c ≡ true → a ≡ b) → (a && c) ≡ (b && c)
-and-same-left a b c f = and-comm a c ∙ and-same-right c a b f ∙ and-comm c b
+beside : (a b : Bool) → (a ≡ true → b ≡ true) → a ≡ (a && b)
+beside a b f = sym (and-implied b a f) ∙ and-comm b a
 
 never : {X : Type 0} → false ≡ true → X
 never e = absurd (false≢true e)
@@ -82,12 +75,12 @@ module _ (w : Who) where
   ended-law xs c =
       all-append (λ x. holds x w) (kept-by (λ x. not (within c x)) xs) (c ∷ [])
       ∙ ap (λ t. all-hold (kept-by (λ x. not (within c x)) xs) w && t) (and-true (holds c w))
-      ∙ and-same-left _ _ (holds c w) (kept xs c)
+      ∙ and-comm _ (holds c w) ∙ and-same (holds c w) _ _ (kept xs c) ∙ and-comm (holds c w) (all-hold xs w)
 
   put-law : (xs : List Clause) (c : Clause) → all-hold (put xs c) w ≡ (all-hold xs w && holds c w)
   put-law xs c =
       cond-both (covers xs c) xs (ended xs c) (λ ys. all-hold ys w ≡ (all-hold xs w && holds c w))
-      (λ e. and-implied _ _ (covered xs c e)) (λ e. ended-law xs c)
+      (λ e. beside _ _ (covered xs c e)) (λ e. ended-law xs c)
 
   -- rules 1 and 2: the empty clause holds of nobody
   empty-fails : (c : Clause) → is-empty c ≡ true → holds c w ≡ false
@@ -112,7 +105,7 @@ module _ (w : Who) where
   emptied xs c e = sym (and-false (all-hold xs w)) ∙ ap (λ t. all-hold xs w && t) (sym (empty-fails c e))
 
   stays-empty : (xs : List Clause) (c : Clause) → any-of is-empty xs ≡ true → all-hold xs w ≡ (all-hold xs w && holds c w)
-  stays-empty xs c e = and-implied _ _ (λ h. never (sym (has-empty-fails xs e) ∙ h))
+  stays-empty xs c e = beside _ _ (λ h. never (sym (has-empty-fails xs e) ∙ h))
 
   same-user : (u v : ℕ) → eqb (w .user) u ≡ true → eqb v u ≡ true → eqb (w .user) v ≡ true
   same-user u v e p = ap (eqb (w .user)) (eqb-true v u p) ∙ e
@@ -137,10 +130,10 @@ module _ (w : Who) where
 
   left-law : (xs : List Clause) (c : Clause) (o : Option Clause) → (all-hold xs w ≡ true → Left o c) → all-hold (put-left xs o) w ≡ (all-hold xs w && holds c w)
   unfolding Left
-  left-law xs c None f = and-implied _ _ f
+  left-law xs c None f = beside _ _ f
   left-law xs c (Some d) f =
       cond-both (is-empty d) (empty ∷ []) (put xs d) (λ ys. all-hold ys w ≡ (all-hold xs w && holds c w))
-      (λ e. emptied xs d e ∙ and-same-right _ _ _ f) (λ e. put-law xs d ∙ and-same-right _ _ _ f)
+      (λ e. emptied xs d e ∙ and-same _ _ _ f) (λ e. put-law xs d ∙ and-same _ _ _ f)
 
   under-law : (u : ℕ) (xs : List Clause) (c : Clause) → (all-hold xs w ≡ true → eqb (w .user) u ≡ true) → all-hold (add-under u xs c) w ≡ (all-hold xs w && holds c w)
   under-law u xs c lone-u =
@@ -190,7 +183,7 @@ module _ (w : Who) where
   by-law : (xs : List Clause) (c : Clause) (o : Option ℕ) → lone-in xs ≡ o → all-hold (add-by o xs c) w ≡ (all-hold xs w && holds c w)
   by-law xs c None e =
       cond-both (covers xs c) xs (put-lone xs c (lone c)) (λ ys. all-hold ys w ≡ (all-hold xs w && holds c w))
-      (λ e. and-implied _ _ (covered xs c e)) (λ e. lone-put-law xs c (lone c) refl)
+      (λ e. beside _ _ (covered xs c e)) (λ e. lone-put-law xs c (lone c) refl)
   by-law xs c (Some u) e = left-law xs c (struck u (c .user) (c .group)) (λ h. struck-law u (c .user) (c .group) (lone-in-law xs u e h))
 
   pub added-law : (xs : List Clause) (c : Clause) → all-hold (added xs c) w ≡ (all-hold xs w && holds c w)

@@ -20,7 +20,7 @@ use Rattle.lines.specs.declared.line.UserLine.{UserLine}
 use Rattle.lines.specs.declared.line.OpenLine.{OpenLine}
 use Rattle.lines.specs.Lines.{line-admits, lines-admit, open-admits, shut-out, within}
 use Rattle.lines.specs.Moves.{treated, treated-by, its-line, move-1, consistent, move-4-open, covered, move-4}
-use Rattle.disjunctive.proofs.Bools.{and-same, cond-same, refuted}
+use Rattle.bounded.proofs.Bools.{and-same, cond-same, refuted}
 use Rattle.lines.proofs.Pieces.{piece}
 use Rattle.disjunctive.proofs.Tested.{any-kept-or}
 

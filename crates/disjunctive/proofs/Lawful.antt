@@ -20,7 +20,7 @@ use Rattle.disjunctive.specs.declared.record.Disjunctive.{Disjunctive}
 use Rattle.lines.specs.Lines.{line-admits, lines-admit, open-admits, has, within}
 use Rattle.lines.specs.Lines.{same-sets, same-open, same-line}
 use Rattle.disjunctive.specs.Requirement.{list-of, narrowed, disjunctions}
-use Rattle.disjunctive.proofs.Bools.{same-by}
+use Rattle.bounded.proofs.Bools.{same-by}
 use Rattle.disjunctive.proofs.Admitting.{admits-within}
 use Rattle.disjunctive.proofs.Narrowing.{narrow-law}
 use Rattle.disjunctive.proofs.Narrowed.{narrowed-made}

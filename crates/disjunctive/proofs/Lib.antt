@@ -1,5 +1,4 @@
 pub mod Admitting
-pub mod Bools
 pub mod Lawful
 pub mod Moved
 pub mod Narrowed

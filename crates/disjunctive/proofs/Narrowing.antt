@@ -21,7 +21,7 @@ use Rattle.lines.specs.declared.line.OpenLine.{OpenLine}
 use Rattle.lines.specs.Lines.{line-admits, lines-admit, open-admits, has, shut-out, users, within, rising, tidy, open-tidy}
 use Rattle.bounded.specs.Places.{placed}
 use Rattle.lines.specs.Moves.{treated-by, line-of, move-1, move-2, move-3, reopened, open-after, lines-after}
-use Rattle.disjunctive.proofs.Bools.{shown}
+use Rattle.bounded.proofs.Bools.{shown}
 use Rattle.disjunctive.proofs.Tested.{any-none, any-placed, any-where, none-any}
 use Rattle.lines.proofs.Pieces.{all-users, beside, given}
 use Rattle.disjunctive.proofs.Shutting.{shut-law}

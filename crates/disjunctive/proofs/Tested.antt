@@ -12,7 +12,7 @@ use Rattle.std.proofs.shelf.Ways.{tells}
 use Rattle.bounded.specs.Tests.{all-of, any-of}
 use Rattle.bounded.proofs.Loops.{any-append}
 use Rattle.bounded.specs.Places.{placed}
-use Rattle.disjunctive.proofs.Bools.{and-implied, or-same, or-middle}
+use Rattle.bounded.proofs.Bools.{and-implied, or-same, or-middle}
 
 module _ {X : Type 0} where
   any-same : (p q : X → Bool) (xs : List X) → ((x : X) → p x ≡ q x) → any-of p xs ≡ any-of q xs
