@@ -1,4 +1,13 @@
 // What the lines of an inquiry come to: a path, and after it the subjects that ask.
+ghost use mathlib.Core.Path.{_≡_};
+ghost use mathlib.Core.Bool.{false};
+ghost use mathlib.Core.List.{[]};
+ghost use Prim.Native.Nat.{_%_};
+ghost use Rattle.std.specs.declared.result.Result.the-variants.{Err};
+ghost use Rattle.rights.specs.Modes.{execute-bits};
+ghost use Rattle.rights.specs.Subjects.{who-of};
+ghost use Rattle.inquiry.specs.Lines.{line-of};
+ghost use Rattle.flatten.specs.Jobs.{path-of, asker, over-if-begun, Entered, Taken};
 use bounded::list::Bounded;
 use groups::GroupSet;
 use inquiry::BadLine;
@@ -8,6 +17,7 @@ use inquiry::read_line;
 use rights::directory::Directory;
 use rights::execute::Execute;
 use rights::mode::Mode;
+use rights::subject::Subject;
 use std::fmt;
 
 // A subject that asks.
@@ -15,6 +25,17 @@ use std::fmt;
 pub struct Asked {
     pub user: u16,
     pub groups: GroupSet,
+}
+
+impl Asked {
+    pub fn subject(&self) -> Subject<'_>
+        ensures { λ r. ⌜ who-of r ≡ asker (now (self .entry)) ⌝ }
+    {
+        Subject {
+            user: self.user,
+            groups: &self.groups,
+        }
+    }
 }
 
 // What is wrong with a line.
@@ -48,8 +69,21 @@ pub struct Job {
     ended: bool,
 }
 
+// The execute bits of a mode; what stands above its nine permission bits does not count.
+fn execute_of(mode: u16) -> Execute
+    ensures { λ r. ⌜ r ≡ execute-bits (mode % 512) ⌝ }
+{
+    match Mode::new(mode % 512) {
+        Some(mode) => mode.execute(),
+        None => NO_EXECUTE,
+    }
+}
+
 impl Job {
-    pub fn new() -> Job {
+    pub fn new() -> Job
+        ensures path { λ r. ⌜ path-of r ≡ [] ⌝ }
+        ensures ended { λ r. ⌜ r .ended ≡ false ⌝ }
+    {
         let unused = Directory {
             owner: 0,
             group: 0,
@@ -61,17 +95,23 @@ impl Job {
         }
     }
 
-    pub fn path(&self) -> &[Directory] {
+    pub fn path(&self) -> &[Directory]
+        ensures { λ r. ⌜ now r ≡ path-of (now (self .entry)) ⌝ }
+    {
         self.path.as_slice()
     }
 
     // Whether the path has ended, with something to be told of it.
-    pub fn is_over(&self) -> bool {
+    pub fn is_over(&self) -> bool
+        ensures { λ r. ⌜ r ≡ now (self .entry) .ended ⌝ }
+    {
         self.ended
     }
 
     // Takes one line in: a directory goes to the end of the path, a subject is handed on.
-    pub fn read(&mut self, text: &[u8]) -> Result<Option<Asked>, Wrong> {
+    pub fn read(&mut self, text: &[u8]) -> Result<Option<Asked>, Wrong>
+        ensures { λ r. ⌜ Taken (line-of (now (text .entry))) (now (self .entry)) r (now (self .exit)) ⌝ }
+    {
         match read_line(text) {
             Ok(Line::Directory { owner, group, mode }) => self.enter(owner, group, mode),
             Ok(Line::Subject { user, groups }) => {
@@ -83,23 +123,25 @@ impl Job {
     }
 
     // A wrong line ends a path that has begun.
-    fn refuse(&mut self, wrong: Wrong) -> Result<Option<Asked>, Wrong> {
+    fn refuse(&mut self, wrong: Wrong) -> Result<Option<Asked>, Wrong>
+        ensures answer { λ r. ⌜ r ≡ Err wrong ⌝ }
+        ensures after { λ r. ⌜ now (self .exit) ≡ over-if-begun (now (self .entry)) ⌝ }
+    {
         self.ended |= !self.path().is_empty();
         Err(wrong)
     }
 
-    fn enter(&mut self, owner: u16, group: u8, mode: u16) -> Result<Option<Asked>, Wrong> {
+    // A directory goes to the end of a path that has not ended.
+    fn enter(&mut self, owner: u16, group: u8, mode: u16) -> Result<Option<Asked>, Wrong>
+        ensures { λ r. ⌜ Entered owner group mode (now (self .entry)) r (now (self .exit)) ⌝ }
+    {
         if self.ended {
             return Err(Wrong::PathEnded);
         }
-        let execute = match Mode::new(mode % 512) {
-            Some(mode) => mode.execute(),
-            None => NO_EXECUTE,
-        };
         let directory = Directory {
             owner,
             group,
-            execute,
+            execute: execute_of(mode),
         };
         if self.path.push(directory) {
             Ok(None)

@@ -1,10 +1,14 @@
 // Flattens the path whose directories stand on standard input, and answers for each subject that asks.
+ghost use mathlib.Core.Path.{_≡_};
+ghost use Rattle.flatten.specs.Newline.{without-newline};
+
 mod job;
+mod records;
 mod report;
 
 use job::Job;
 use job::WrongDisplay;
-use report::Records;
+use records::Records;
 use report::print_answer;
 use report::print_records;
 use std::error::AnyError;
@@ -12,7 +16,9 @@ use std::io::BufRead;
 use std::io::BufReader;
 
 // A line without its newline.
-fn trimmed(line: &[u8]) -> &[u8] {
+fn trimmed(line: &[u8]) -> &[u8]
+    ensures { λ r. ⌜ now r ≡ without-newline (now (line .entry)) ⌝ }
+{
     match line {
         [text @ .., b'\n'] => text,
         _ => line,
@@ -33,7 +39,10 @@ fn main(rt: LibcRuntime) -> Result<(), AnyError> {
             records = Some(print_records(&rt, job.path())?);
         }
         match (read, &records) {
-            (Ok(Some(asked)), Some(records)) => print_answer(&rt, records, &asked)?,
+            (Ok(Some(asked)), Some(records)) => {
+                let admitted = records.admits(&asked.subject());
+                print_answer(&rt, admitted)?
+            }
             (Ok(_), _) => {}
             (Err(wrong), _) => {
                 eprintln!(rt, "line {number}: {wrong}")?;

@@ -1,34 +1,19 @@
 // What is printed: the two records of a path, and an answer for each subject.
-use crate::job::Asked;
-use conjunctive::form::ConjunctiveForm;
+ghost use mathlib.Core.Path.{_≡_};
+ghost use Rattle.std.specs.Vec.{made};
+ghost use Rattle.std.specs.declared.result.Result.the-variants.{Ok};
+ghost use Rattle.flatten.specs.Joined.{records-of, Exact};
+use crate::records::Records;
+use crate::records::flattened;
 use conjunctive::record::Conjunctive;
-use disjunctive::form::DisjunctiveForm;
 use disjunctive::record::Disjunctive;
 use rights::directory::Directory;
-use rights::form::Form;
-use rights::form::TooDeep;
-use rights::path::flatten;
-use rights::subject::Subject;
 use std::error::AnyError;
 use std::io;
 use wording::InWords;
 use wording::clause::ClauseDisplay;
 use wording::line::OpenLineDisplay;
 use wording::line::UserLineDisplay;
-
-// The records of one path.
-#[derive(Clone, Copy)]
-pub struct Records {
-    conjunctive: Conjunctive,
-    disjunctive: Disjunctive,
-}
-
-fn flattened(path: &[Directory]) -> Result<Records, TooDeep> {
-    Ok(Records {
-        conjunctive: flatten(path)?,
-        disjunctive: flatten(path)?,
-    })
-}
 
 // One clause to a line.
 fn print_clauses(rt: &LibcRuntime, record: &Conjunctive) -> io::Result<()> {
@@ -58,7 +43,11 @@ fn print_lines(rt: &LibcRuntime, record: &Disjunctive) -> io::Result<()> {
     Ok(())
 }
 
-pub fn print_records(rt: &LibcRuntime, path: &[Directory]) -> Result<Records, AnyError> {
+// Prints the records of a path, and hands them on.
+pub fn print_records(rt: &LibcRuntime, path: &[Directory]) -> Result<Records, AnyError>
+    ensures records { λ r. ⌜ made r (λ rs. Ok rs ≡ records-of (now (path .entry))) ⌝ }
+    ensures exact { λ r. ⌜ made r (λ rs. Exact rs (now (path .entry))) ⌝ }
+{
     let Ok(records) = flattened(path) else {
         return Err("a path has at most 16 directories".into());
     };
@@ -67,12 +56,8 @@ pub fn print_records(rt: &LibcRuntime, path: &[Directory]) -> Result<Records, An
     Ok(records)
 }
 
-pub fn print_answer(rt: &LibcRuntime, records: &Records, asked: &Asked) -> io::Result<()> {
-    let subject = Subject {
-        user: asked.user,
-        groups: &asked.groups,
-    };
-    if records.conjunctive.admits(&subject) && records.disjunctive.admits(&subject) {
+pub fn print_answer(rt: &LibcRuntime, admitted: bool) -> io::Result<()> {
+    if admitted {
         println!(rt, "admitted")
     } else {
         println!(rt, "shut out")

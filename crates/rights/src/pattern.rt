@@ -42,7 +42,7 @@ const OWNER_OR_MEMBER: Shape = Shape {
     group: Sign::Positive,
 };
 
-const OWNER_OR_STRANGER: Shape = Shape {
+const OWNER_OR_NOT_MEMBER: Shape = Shape {
     user: Sign::Positive,
     group: Sign::Negative,
 };
@@ -52,7 +52,7 @@ const MEMBER: Shape = Shape {
     group: Sign::Positive,
 };
 
-const STRANGER: Shape = Shape {
+const NOT_MEMBER: Shape = Shape {
     user: Sign::Absent,
     group: Sign::Negative,
 };
@@ -60,11 +60,11 @@ const STRANGER: Shape = Shape {
 // By the bits of owner, group and others, from 000 to 111.
 const CLAUSES: [[Option<Shape>; 2]; 8] = [
     [Some(EMPTY), None],
-    [Some(NOT_OWNER), Some(STRANGER)],
+    [Some(NOT_OWNER), Some(NOT_MEMBER)],
     [Some(NOT_OWNER), Some(MEMBER)],
     [Some(NOT_OWNER), None],
     [Some(OWNER), None],
-    [Some(OWNER_OR_STRANGER), None],
+    [Some(OWNER_OR_NOT_MEMBER), None],
     [Some(OWNER_OR_MEMBER), None],
     [None, None],
 ];
