@@ -1,4 +1,4 @@
--- Facts about tests. Assumes nothing.
+-- Facts about tests.
 use mathlib.Core.Path.{_≡_, refl, sym, ap}
 use mathlib.Core.Bool.{Bool, true, false, cond, _&&_, _||_}
 

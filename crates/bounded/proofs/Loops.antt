@@ -1,4 +1,4 @@
--- The steps of loops over a list: each takes the item x that the turn reads at i. Assumes nothing.
+-- The steps of loops over a list: each takes the item x that the turn reads at i.
 use mathlib.Core.Path.{_≡_, refl, sym, ap, ap₂, _∙_}
 use mathlib.Core.List.{List, [], _∷_, _++_}
 use mathlib.Core.Bool.{Bool, true, false, cond, _&&_, _||_, and-true, and-assoc, or-false, or-assoc}

@@ -1,4 +1,4 @@
--- A record is the one that its list is packed in. Assumes nothing.
+-- A record is the one that its list is packed in.
 use mathlib.Core.Path.{_≡_, refl, sym, ap, ap₂, _∙_}
 use mathlib.Core.HLevel.{isProp→PathP}
 use mathlib.Core.List.{List, [], _∷_, _++_}

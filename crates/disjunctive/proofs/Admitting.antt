@@ -1,4 +1,4 @@
--- Whom lines and the open line admit after each move. Assumes nothing.
+-- Whom lines and the open line admit after each move.
 use mathlib.Core.Path.{_≡_, refl, sym, ap, ap₂, _∙_}
 use mathlib.Core.List.{List, [], _∷_}
 use mathlib.Core.Bool.{Bool, true, false, not, cond, _&&_, _||_, or-false, and-false, and-true, and-assoc, and-or-distrib-right}

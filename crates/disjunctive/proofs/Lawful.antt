@@ -1,4 +1,4 @@
--- The disjunctive record keeps the laws of a form. Assumes nothing.
+-- The disjunctive record keeps the laws of a form.
 use mathlib.Core.Path.{_≡_, refl, ap₂, _∙_}
 use mathlib.Core.List.{List, [], _∷_}
 use mathlib.Core.Bool.{true, not, _&&_, _||_, false≢true}

@@ -1,4 +1,4 @@
--- The moves one after another, each on the table that the one before left. Assumes nothing.
+-- The moves one after another, each on the table that the one before left.
 use mathlib.Core.Path.{_≡_, ap, ap₂, _∙_}
 use Prim.Native.Nat.{_<_, _≤_}
 use native.Mathlib.Omega.{arith}

@@ -1,4 +1,4 @@
--- What a narrowed record holds, and when a record is the narrowed one. Assumes nothing.
+-- What a narrowed record holds, and when a record is the narrowed one.
 use mathlib.Core.Path.{_≡_, refl, sym, ap, ap₂, _∙_}
 use mathlib.Core.HLevel.{isProp→PathP}
 use mathlib.Core.Bool.{true}

@@ -1,4 +1,4 @@
--- After the four moves, those pass who did and who may search the directory. Assumes nothing.
+-- After the four moves, those pass who did and who may search the directory.
 use mathlib.Core.Path.{_≡_, refl, sym, ap, ap₂, _∙_}
 use mathlib.Core.List.{List, [], _∷_}
 use mathlib.Core.Bool.{Bool, true, false, not, cond, _&&_, _||_, or-false, and-false, and-true}

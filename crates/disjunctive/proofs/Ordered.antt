@@ -1,4 +1,4 @@
--- Lists whose keys rise, and what is left out of them or put in. Assumes nothing.
+-- Lists whose keys rise, and what is left out of them or put in.
 use mathlib.Core.Path.{_≡_, refl}
 use mathlib.Core.List.{List, [], _∷_, _++_, map}
 use mathlib.Core.Bool.{Bool, true, false, cond}

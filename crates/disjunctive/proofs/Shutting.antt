@@ -1,4 +1,4 @@
--- Who is shut out of the open line once one more is. Assumes nothing.
+-- Who is shut out of the open line once one more is.
 use mathlib.Core.Path.{_≡_, refl, ap, _∙_}
 use mathlib.Core.List.{List, [], _∷_}
 use mathlib.Core.Bool.{Bool, not, _&&_, _||_}

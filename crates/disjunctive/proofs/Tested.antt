@@ -1,4 +1,4 @@
--- Tests at some item of a list, where items are left out, put in or changed. Assumes nothing.
+-- Tests at some item of a list, where items are left out, put in or changed.
 use mathlib.Core.Path.{_≡_, refl, sym, ap, ap₂, _∙_}
 use mathlib.Core.List.{List, [], _∷_}
 use mathlib.Core.Bool.{Bool, true, false, not, cond, _&&_, _||_, or-assoc}

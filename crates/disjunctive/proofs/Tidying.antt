@@ -1,4 +1,4 @@
--- What the four moves leave is tidy. Assumes nothing.
+-- What the four moves leave is tidy.
 use mathlib.Core.Path.{_≡_, refl, sym, ap, subst, _∙_}
 use mathlib.Core.List.{List, [], _∷_, map, map-id}
 use mathlib.Core.Bool.{Bool, true, false, not, cond, _&&_}

@@ -1,4 +1,4 @@
--- The bits of a number, lowest first. Assumes nothing.
+-- The bits of a number, lowest first.
 use mathlib.Core.Path.{_≡_, refl, sym, ap, _∙_}
 use mathlib.Core.Bool.{Bool, false, _||_, _&&_}
 use mathlib.Core.Logic.{⊎-elim}

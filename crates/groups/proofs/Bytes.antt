@@ -1,4 +1,4 @@
--- From the bits of byte i to the groups 8 * i to 8 * i + 7. Assumes nothing.
+-- From the bits of byte i to the groups 8 * i to 8 * i + 7.
 use mathlib.Core.Path.{_≡_, ap, ap₂, _∙_}
 use mathlib.Core.List.{List}
 use mathlib.Core.Bool.{Bool, true, false, not, _&&_, _||_}

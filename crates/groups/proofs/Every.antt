@@ -1,4 +1,4 @@
--- A test at each number below n. Assumes nothing.
+-- A test at each number below n.
 use mathlib.Core.Path.{_≡_, refl, sym, ap, _∙_}
 use mathlib.Core.Bool.{Bool, true, not, _&&_, _||_}
 use mathlib.Core.Logic.{⊎-elim}

@@ -1,4 +1,4 @@
--- What one group more does to a set, and the laws of subsets and disjoint sets. Assumes nothing.
+-- What one group more does to a set, and the laws of subsets and disjoint sets.
 use mathlib.Core.Path.{_≡_, refl, sym, ap, ap₂, _∙_}
 use mathlib.Core.List.{List}
 use mathlib.Core.Bool.{Bool, true, false, not, _||_, _&&_, or-comm}

@@ -1,4 +1,4 @@
--- The bits of two words of k bits: all of the first in the second, or none in both. Assumes nothing.
+-- The bits of two words of k bits: all of the first in the second, or none in both.
 use mathlib.Core.Path.{_≡_, refl, sym, ap}
 use mathlib.Core.Bool.{Bool, true, false, not, _&&_, _||_}
 use Prim.Native.Nat.{ℕ, _^_, _<_}

@@ -1,4 +1,4 @@
--- User lines beside the open line: what move 1 leaves of each, and when move 2 adds one. Assumes nothing.
+-- User lines beside the open line: what move 1 leaves of each, and when move 2 adds one.
 use mathlib.Core.List.{List, [], _∷_}
 use mathlib.Core.Bool.{Bool, true, false, not, cond, _&&_}
 use Prim.Native.Nat.{ℕ}

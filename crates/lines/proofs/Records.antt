@@ -1,4 +1,4 @@
--- Records with the same data are the same. Assumes nothing.
+-- Records with the same data are the same.
 use mathlib.Core.Path.{_≡_}
 use mathlib.Core.HLevel.{isProp→PathP}
 use mathlib.Core.List.{List}

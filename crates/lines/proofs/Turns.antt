@@ -1,4 +1,4 @@
--- What single steps make, in the words of the moves. Assumes nothing.
+-- What single steps make, in the words of the moves.
 use mathlib.Core.Path.{_≡_, refl, ap, sym, _∙_}
 use mathlib.Core.Bool.{Bool, true, false, cond, _||_}
 use mathlib.Core.List.{List, [], _∷_, _++_}

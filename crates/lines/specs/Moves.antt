@@ -40,12 +40,15 @@ treated true false g l = Some (wanting g l)
 treated false true g l = Some (barring g l)
 treated false false g l = None
 
+-- such a line, by a directory
 abbrev pub treated-by : Directory → Line → Option Line
 treated-by d l = treated (d .execute .group) (d .execute .others) (d .group) l
 
+-- the line of a user
 abbrev pub line-of : ℕ → Line → UserLine
 line-of u l = record { user = u; line = l }
 
+-- the line of a user, if there is one
 abbrev pub its-line : ℕ → Option Line → List UserLine
 its-line u None = []
 its-line u (Some l) = line-of u l ∷ []
@@ -61,10 +64,11 @@ move-2 d None ls = ls
 move-2 d (Some o) ls =
     cond (d .execute .owner && (not (shut-out o (d .owner)) && not (has (users ls) (d .owner)))) (placed (λ l. l .user) (line-of (d .owner) (o .line)) ls) ls
 
--- who is shut out once the owner is too
+-- the open line with these sets, and one user more shut out
 abbrev pub shut-with : ℕ → OpenLine → Line → OpenLine
 shut-with u o l = record { line = l; shut = packed 16 (o .shut .filler) (placed (λ v. v) u (listed (o .shut))) }
 
+-- the open line with what is left of its sets, by the owner bit
 abbrev pub reopened : Bool → ℕ → OpenLine → Option Line → Option OpenLine
 reopened owner u o None = None
 reopened owner u o (Some l) = Some (cond owner (record { line = l; shut = o .shut }) (shut-with u o l))

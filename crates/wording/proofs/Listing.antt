@@ -1,4 +1,4 @@
--- Numbers written one after another, with ", " between them. Assumes nothing.
+-- Numbers written one after another, with ", " between them.
 use mathlib.Core.Path.{_≡_, refl, ap, _∙_}
 use mathlib.Core.Bool.{Bool, true, false, cond}
 use mathlib.Core.List.{List, [], _∷_, _++_, append-assoc, append-nil}
