@@ -99,6 +99,7 @@ pub record Worked : Type 0 where
   pub two-owners-clauses : clauses two-owners ≡ is-or-in 1 1 ∷ is-or-in 2 1 ∷ []
   pub two-owners-lines : lines two-owners ≡ []
   pub two-owners-others : others two-owners ≡ Some (set-of (1 ∷ []), none, [])
+  pub two-groups-clauses : clauses two-groups ≡ is-or-in 1 1 ∷ is-or-in 1 2 ∷ []
   pub two-groups-lines : lines two-groups ≡ (1, none, none) ∷ []
   pub two-groups-others : others two-groups ≡ Some (set-of (1 ∷ 2 ∷ []), none, [])
   pub one-user-clauses : clauses one-user ≡ is 2 ∷ in-group 1 ∷ []

@@ -10,6 +10,7 @@ returns c = record {
     two-owners-clauses = refl;
     two-owners-lines = refl;
     two-owners-others = refl;
+    two-groups-clauses = refl;
     two-groups-lines = refl;
     two-groups-others = refl;
     one-user-clauses = refl;
