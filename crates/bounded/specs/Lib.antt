@@ -1,3 +1,4 @@
+pub mod Filled
 pub mod Lists
 pub mod Places
 pub mod Tests

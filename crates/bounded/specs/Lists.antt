@@ -1,9 +1,7 @@
 -- The list that a record of fixed size holds, and the record that holds a list.
 use Rattle.std.specs.Prelude.{ℕ, ◌-◌, List, ◌++◌, length, take, replicate}
-use Rattle.std.proofs.Common.{arith, length-take, length-append}
-use Rattle.std.proofs.lemmas.List.{length-replicate}
-use Rattle.std.proofs.Math.Seq.{drop-append_seam}
 use Rattle.bounded.specs.declared.list.Bounded.{Bounded}
+use Rattle.bounded.specs.Filled.{filled}
 
 module _ {X : Type 0} {n : ℕ} where
   abbrev pub listed : Bounded X n → List X
@@ -15,9 +13,5 @@ packed n filler xs = let ys = take n xs in record {
   count = length ys;
   items = ys ++ replicate (n - length ys) filler;
   filler = filler;
-  ok = (
-    omega (arith, length-take n xs),
-    simp (length-append, length-replicate) (omega (arith, length-take n xs)),
-    drop-append_seam ys (replicate (n - length ys) filler),
-  );
+  ok = filled n filler xs;
 }

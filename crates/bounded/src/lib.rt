@@ -1,4 +1,6 @@
 // A list of at most N items that lies in place, with no heap.
+#![tactic(auto)]
+
 pub mod alike;
 pub mod keep;
 pub mod keyed;

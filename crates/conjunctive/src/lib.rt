@@ -1,4 +1,6 @@
 // The conjunctive form: a list of clauses, each of which must hold of the subject.
+#![tactic(auto)]
+
 pub mod asked;
 pub mod clause;
 pub mod clauses;

@@ -1,4 +1,6 @@
 // The worked examples of the definitions, computed.
+#![tactic(auto)]
+
 ghost use Rattle.std.specs.Prelude.{◌≡◌, false};
 ghost use Rattle.examples.specs.Worked.{Worked};
 

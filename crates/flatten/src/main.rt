@@ -1,4 +1,6 @@
 // Flattens the path whose directories stand on standard input, and answers for each subject that asks.
+#![tactic(auto)]
+
 ghost use Rattle.std.specs.Prelude.{◌≡◌};
 ghost use Rattle.flatten.specs.Newline.{without_newline};
 

@@ -1,3 +1,5 @@
+#![tactic(auto)]
+
 ghost use Rattle.std.specs.Prelude.{◌≡◌, ℕ, ◌<◌, ◌||◌, ◌==◌};
 ghost use Rattle.groups.specs.Groups.{member, inserted, subset, disjoint};
 

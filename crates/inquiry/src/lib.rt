@@ -1,4 +1,6 @@
 // Reads one line of an inquiry: a directory of the path, or the subject that asks.
+#![tactic(auto)]
+
 ghost use Rattle.std.specs.Prelude.{◌≡◌, ◌∷◌, replicate, Err, MatchOption};
 ghost use Rattle.inquiry.specs.Fields.{field_if, fields, fields_if};
 ghost use Rattle.inquiry.specs.Lines.{directory_of, is_who, line_of, subject_of, with_groups};

@@ -1,4 +1,6 @@
 // Lines of the disjunctive form: user lines in a table, and the open line.
+#![tactic(auto)]
+
 pub mod alike;
 pub mod asks;
 pub mod line;

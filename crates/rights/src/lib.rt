@@ -1,4 +1,6 @@
 // The rights of one path: subjects, the class rule, the patterns of execute bits, flattened requirements.
+#![tactic(auto)]
+
 pub mod class;
 pub mod directory;
 pub mod execute;

@@ -1,4 +1,6 @@
 // Shelves: where slots lie, and layers of shelves over shelves.
+#![tactic(auto)]
+
 pub mod entry;
 pub mod laws;
 pub mod number;

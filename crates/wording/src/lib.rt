@@ -1,4 +1,6 @@
 // Records in plain words, a clause or a line of a record to a line of text.
+#![tactic(auto)]
+
 pub mod clause;
 pub mod line;
 pub mod numbers;

@@ -5,7 +5,7 @@ use Rattle.examples.proofs.examples_stand.Goals as goal
 pub returns : goal.returns
 unfolding every subset disjoint
 returns c = record {
-  refused = c.may-search.ensures;
+  refused = c.may_search.ensures;
   worked = record {
     two_owners_clauses = refl;
     two_owners_lines = refl;

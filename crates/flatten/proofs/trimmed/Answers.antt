@@ -7,5 +7,5 @@ empty_whole : (text : List ℕ) → length text < 1 → text ≡ without_newline
 empty_whole [] h = refl
 empty_whole (byte ∷ left) h = absurd (omega arith)
 
-pub returns-in-default : goal.returns-in-default
-returns-in-default c = empty_whole c.args.line.now (search rules)
+pub returns-in_default : goal.returns-in_default
+returns-in_default c = empty_whole c.args.line.now (search rules)

@@ -12,13 +12,13 @@ returns g c =
     let x = c.args.item in
     let key = g.T.Keyed.key in
     let k = c.key-key.result in
-    let below = filter (λ y. ltb (key y) k) c.as-slice.result.now in
-    let above = filter (λ y. ltb k (key y)) c.as-slice-2.result.now in
+    let below = filter (λ y. ltb (key y) k) c.as_slice.result.now in
+    let above = filter (λ y. ltb k (key y)) c.as_slice-2.result.now in
     let first = pushed K n f c.new-out.result c.extend.new.list [] below c.new-out.ensures c.extend.ensures in
     let second = pushed K n f c.extend.new.list c.push.new.self below (x ∷ []) first c.push.ensures.list in
     pushed K n f c.push.new.self c.extend-2.new.list (below ++ (x ∷ [])) above second c.extend-2.ensures
     ∙ ap (packed n f)
     (append_assoc below (x ∷ []) above
     ∙ ap₂ (λ a b. a ++ (x ∷ b))
-    (ap₂ (λ m ys. filter (λ y. ltb (key y) m) ys) c.key-key.ensures c.as-slice.ensures)
-    (ap₂ (λ m ys. filter (λ y. ltb m (key y)) ys) c.key-key.ensures c.as-slice-2.ensures))
+    (ap₂ (λ m ys. filter (λ y. ltb (key y) m) ys) c.key-key.ensures c.as_slice.ensures)
+    (ap₂ (λ m ys. filter (λ y. ltb m (key y)) ys) c.key-key.ensures c.as_slice-2.ensures))

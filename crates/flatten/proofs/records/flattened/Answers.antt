@@ -7,8 +7,8 @@ use Rattle.flatten.proofs.records.flattened.Goals as goal
 
 pub returns : goal.returns
 returns c =
-    let first = c.in-ok-flatten.ensures in
-    let second = c.in-ok-flatten-2.ensures in
+    let first = c.in_ok-flatten.ensures in
+    let second = c.in_ok-flatten-2.ensures in
     record {
       records = ap₂ joined {v = flattened disjunctions c.args.path.now} first.form second.form;
       exact = record {

@@ -13,10 +13,10 @@ returns-then-self g c =
       list = from_full g.row.T.coded s c.args.item c.if-self.true;
     }
 
-pub invariant-of-self : goal.invariant-of-self
-invariant-of-self g c =
+pub invariant_of-self : goal.invariant_of-self
+invariant_of-self g c =
     let s = c.args.self.now in
-    ((omega arith, length-set s.items s.count _ ∙ s.ok.1, padded g.row.T.coded s c.args.item), tt)
+    record { ok = (omega arith, length-set s.items s.count _ ∙ s.ok.1, padded g.row.T.coded s c.args.item) }
 
 pub returns : goal.returns
 returns g c =

@@ -6,17 +6,17 @@ use Rattle.conjunctive.specs.contracts.clause.Clause.{the_row}
 use Rattle.conjunctive.specs.Adding.{put_left}
 use Rattle.conjunctive.proofs.clauses.Clauses.add_under.Goals as goal
 
-pub returns-then-has-empty : goal.returns-then-has-empty
-returns-then-has-empty c = from_listed the_row.coded c.args.self.now.list _ (sym (cond-true _ _ _ (sym c.if-has-empty.ensures)))
+pub returns-then-has_empty : goal.returns-then-has_empty
+returns-then-has_empty c = from_listed the_row.coded c.args.self.now.list _ (sym (cond-true _ _ _ (sym c.if-has_empty.ensures)))
 
-pub returns-then-is-empty : goal.returns-then-is-empty
-returns-then-is-empty c =
+pub returns-then-is_empty : goal.returns-then-is_empty
+returns-then-is_empty c =
     let was = c.args.self.now.list in
-    c.only.ensures ∙ ap (packed 32 was.filler) (sym (cond-false _ _ _ (sym c.if-has-empty.ensures) ∙ cond-true _ _ _ (sym c.if-is-empty.ensures)))
+    c.only.ensures ∙ ap (packed 32 was.filler) (sym (cond-false _ _ _ (sym c.if-has_empty.ensures) ∙ cond-true _ _ _ (sym c.if-is_empty.ensures)))
 
 pub returns : goal.returns
 returns c =
     let was = c.args.self.now.list in
     c.put_left.ensures
     ∙ ap (packed 32 was.filler)
-    (ap (put_left (listed was)) c.struck.ensures ∙ sym (cond-false _ _ _ (sym c.if-has-empty.ensures) ∙ cond-false _ _ _ (sym c.if-is-empty.ensures)))
+    (ap (put_left (listed was)) c.struck.ensures ∙ sym (cond-false _ _ _ (sym c.if-has_empty.ensures) ∙ cond-false _ _ _ (sym c.if-is_empty.ensures)))

@@ -9,7 +9,7 @@ use Rattle.conjunctive.specs.Requirement.{clause_of, with_row, clauses_after}
 use Rattle.conjunctive.specs.Lengths.{added_le}
 use Rattle.conjunctive.specs.Rows.{past_clause, past_none}
 use Rattle.conjunctive.proofs.clauses.Clauses.narrow.Goals as goal
-use Rattle.conjunctive.proofs.clauses.Clauses.narrow.Goals.{in-Some, in-default}
+use Rattle.conjunctive.proofs.clauses.Clauses.narrow.Goals.{in-Some, in_default}
 
 pub add-requires : goal.add-requires
 add-requires c = omega (arith, c.loop-shape.invariant.1)
@@ -37,11 +37,11 @@ loop-shape-preserved c =
             ap (λ xs. with_row u g xs (drop (i + 1) row)) (holds ∙ ap (added (listed s)) filled)
                 ∙ sym (past_clause u g (listed s) row i _ shape within w.in-Some.is) ∙ c.loop-shape.invariant.2,
           )
-      | in-default w ↦ (
+      | in_default w ↦ (
         ap (λ x. x.list.filler) w.self-is ∙ c.loop-shape.invariant.0,
         omega (arith, ap (λ x. x.list.count) w.self-is, c.loop-shape.invariant.1),
         ap (λ x. with_row u g (listed x.list) (drop (i + 1) row)) w.self-is
-            ∙ sym (past_none u g (listed s) row i _ within w.in-default.is) ∙ c.loop-shape.invariant.2,
+            ∙ sym (past_none u g (listed s) row i _ within w.in_default.is) ∙ c.loop-shape.invariant.2,
       )
     ]
 

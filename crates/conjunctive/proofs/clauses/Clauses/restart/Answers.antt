@@ -15,19 +15,19 @@ loop-clause-preserved c =
     let old = c.args.self.now.list in
     let first = c.only.new.self.list in
     let out = c.loop-clause.self.list in
-    let items = c.as-slice-clause-items.result.now in
+    let items = c.as_slice-clause-items.result.now in
     let i = c.loop-clause.clause-index in
     let so_far = all_under u (listed first) (take i items) in
     let one : length (listed first) ≤ 1 = omega (arith, ap (λ b. length (listed b)) c.only.ensures) in
     let room : length so_far ≤ 32 =
-    omega (arith, all_under_le u (listed first) (take i items), length-take i items, one, ap length c.as-slice-clause-items.ensures, length_listed the_row.coded old, c.requires) in
+    omega (arith, all_under_le u (listed first) (take i items), length-take i items, one, ap length c.as_slice-clause-items.ensures, length_listed the_row.coded old, c.requires) in
     let is : listed out ≡ so_far = ap listed c.loop-clause.invariant ∙ packed_listed the_row.coded first.filler so_far room in
     c.add_under.ensures
     ∙ ap₂ (packed 32) (ap (λ b. b.filler) c.loop-clause.invariant) (under_more u (listed first) items i _ (listed out) c.loop-clause-test.true is)
 
 pub returns : goal.returns
 returns c =
-    let items = c.as-slice-clause-items.result.now in
+    let items = c.as_slice-clause-items.result.now in
     c.loop-clause.invariant
     ∙ ap₂ (packed 32) (ap (λ b. b.filler) c.only.ensures)
-    (ap₂ (all_under c.args.u) (ap listed c.only.ensures) (take_all c.loop-clause.clause-index items c.loop-clause-test.false ∙ c.as-slice-clause-items.ensures))
+    (ap₂ (all_under c.args.u) (ap listed c.only.ensures) (take_all c.loop-clause.clause-index items c.loop-clause-test.false ∙ c.as_slice-clause-items.ensures))

@@ -11,8 +11,8 @@ use Rattle.conjunctive.specs.Lawfulness.{same_record, narrowed_level, narrowed_l
 use Rattle.conjunctive.specs.Rows.{after_le, after_tidy}
 use Rattle.conjunctive.proofs.form.ConjunctiveForm.narrow.Goals as goal
 
-pub invariant-of-self : goal.invariant-of-self
-invariant-of-self c =
+pub invariant_of-self : goal.invariant_of-self
+invariant_of-self c =
     let r = c.args.self.now in
     let d = c.args.directory.now in
     let list = c.narrow.new.self.list in

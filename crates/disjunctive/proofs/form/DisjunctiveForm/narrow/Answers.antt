@@ -6,8 +6,8 @@ use Rattle.disjunctive.proofs.Moved.{table_after}
 use Rattle.disjunctive.specs.Narrowed.{narrowed_is, after, packs}
 use Rattle.disjunctive.proofs.form.DisjunctiveForm.narrow.Goals as goal
 
-pub invariant-of-self : goal.invariant-of-self
-invariant-of-self c =
+pub invariant_of-self : goal.invariant_of-self
+invariant_of-self c =
     let r = c.args.self.now in
     let d = c.args.directory.now in
     let low : r.level < 16 = omega arith in

@@ -6,21 +6,21 @@ use Rattle.lines.specs.Moves.{move_2}
 use Rattle.lines.proofs.Turns.{move_2_by_test}
 use Rattle.lines.proofs.table.Lines.grant.Goals as goal
 
-pub returns-then-lacks-owner : goal.returns-then-lacks-owner
-returns-then-lacks-owner c =
+pub returns-then-lacks_owner : goal.returns-then-lacks_owner
+returns-then-lacks_owner c =
     let s = c.args.self.now.table in
     c.place.ensures
     ∙ ap (packed 16 s.filler)
-    (move_2_by_test c.args.directory.now c.in-Some.open c.args.others.now (listed s) true c.in-Some.is c.if-lacks-owner.ensures)
+    (move_2_by_test c.args.directory.now c.in-Some.open c.args.others.now (listed s) true c.in-Some.is c.if-lacks_owner.ensures)
 
-pub returns-else-lacks-owner : goal.returns-else-lacks-owner
-returns-else-lacks-owner c =
+pub returns-else-lacks_owner : goal.returns-else-lacks_owner
+returns-else-lacks_owner c =
     let s = c.args.self.now.table in
     from_listed the_row.coded s (listed s) refl
     ∙ ap (packed 16 s.filler)
-    (move_2_by_test c.args.directory.now c.in-Some.open c.args.others.now (listed s) false c.in-Some.is c.if-lacks-owner.ensures)
+    (move_2_by_test c.args.directory.now c.in-Some.open c.args.others.now (listed s) false c.in-Some.is c.if-lacks_owner.ensures)
 
-pub returns-in-default : goal.returns-in-default
-returns-in-default c =
+pub returns-in_default : goal.returns-in_default
+returns-in_default c =
     let s = c.args.self.now.table in
-    from_listed the_row.coded s (listed s) refl ∙ ap (λ o. packed 16 s.filler (move_2 c.args.directory.now o (listed s))) (sym c.in-default.is)
+    from_listed the_row.coded s (listed s) refl ∙ ap (λ o. packed 16 s.filler (move_2 c.args.directory.now o (listed s))) (sym c.in_default.is)

@@ -7,6 +7,6 @@ use Rattle.lines.proofs.table.Lines.has.Goals as goal
 
 pub returns : goal.returns
 returns c =
-    c.has-key.ensures
-    ∙ ap (any_of (λ (l : UserLine). eqb l.user c.args.user)) c.as-slice.ensures
+    c.has_key.ensures
+    ∙ ap (any_of (λ (l : UserLine). eqb l.user c.args.user)) c.as_slice.ensures
     ∙ has_line (listed c.args.self.now.table) c.args.user

@@ -11,8 +11,8 @@ use Rattle.lines.proofs.table.Lines.treat.Goals.{then-treat, else-treat}
 pub loop-i-init : goal.loop-i-init
 loop-i-init c = (from_listed the_row.coded c.new-out.result [] (ap listed c.new-out.ensures), refl, c.args.self.now.table.ok.1)
 
-pub invariant-of-self : goal.invariant-of-self
-invariant-of-self c =
+pub invariant_of-self : goal.invariant_of-self
+invariant_of-self c =
     let s = c.args.self.now.table in
     let end : c.loop-i.i ≡ s.count = omega arith in (
       (
