@@ -71,7 +71,7 @@ fn subject(user: &[u8], groups: Option<&[u8]>) -> Result<Line, BadLine>
 fn is_who(field: &[u8]) -> bool
     ensures { result ≡ is_who field.now }
 {
-    field == b"who"
+    field == b"who".as_slice()
 }
 
 // What the line says, or what is wrong with it.

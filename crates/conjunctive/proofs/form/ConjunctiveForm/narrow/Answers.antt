@@ -20,7 +20,7 @@ invariant_of-self c =
     let room : length (clauses_after d (list_of r)) ≤ 32 = omega (arith, few) in
     let holds : listed list ≡ clauses_after d (list_of r) =
     ap listed c.narrow.ensures ∙ packed_listed the_row.coded r.clauses.list.filler (clauses_after d (list_of r)) room in
-    ((omega arith, omega (arith, few, ap length holds, length_listed the_row.coded list), ap tidy holds ∙ after_tidy d (list_of r) r.ok.2), tt)
+    record { ok = (omega arith, omega (arith, few, ap length holds, length_listed the_row.coded list), ap tidy holds ∙ after_tidy d (list_of r) r.ok.2) }
 
 pub returns-then-self-ge16 : goal.returns-then-self-ge16
 returns-then-self-ge16 c = record { answer = search rules; after = search rules; list = search rules; anew = begins_anew }

@@ -14,7 +14,7 @@ invariant_of-self c =
     let table =
     table_after r d low c.treat.new.self.table c.grant.new.self.table c.settle.new.self.table c.reopened-others.result
     c.treat.ensures c.grant.ensures c.reopened-others.ensures c.settle.ensures in
-    ((omega arith, ap₂ (tidy (r.level + 1)) (ap listed table ∙ packs r d low) c.reopened-others.ensures ∙ after r d low), tt)
+    record { ok = (omega arith, ap₂ (tidy (r.level + 1)) (ap listed table ∙ packs r d low) c.reopened-others.ensures ∙ after r d low) }
 
 pub returns : goal.returns
 returns c =

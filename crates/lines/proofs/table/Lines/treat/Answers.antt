@@ -14,14 +14,14 @@ loop-i-init c = (from_listed the_row.coded c.new-out.result [] (ap listed c.new-
 pub invariant_of-self : goal.invariant_of-self
 invariant_of-self c =
     let s = c.args.self.now.table in
-    let end : c.loop-i.i ≡ s.count = omega arith in (
-      (
+    let end : c.loop-i.i ≡ s.count = omega arith in
+    record {
+      ok = (
         s.ok.0,
         c.loop-i.invariant.2,
         ap (λ k. drop k c.loop-i.items) (sym end) ∙ c.loop-i.invariant.1 ∙ ap (λ k. drop k s.items) end ∙ s.ok.2,
-      ),
-      tt,
-    )
+      );
+    }
 
 pub loop-i-preserved : goal.loop-i-preserved
 loop-i-preserved c =
