@@ -1,5 +1,5 @@
 -- The conjunctive record keeps the laws of a form.
-use Rattle.std.specs.Prelude.{◌≡◌, ℕ, ◌+◌, ◌*◌, ◌<◌, ◌≤◌, true, false, ◌&&◌, List, [], ◌∷◌, length, take, refl}
+use Rattle.std.specs.Prelude.{◌≡◌, ℕ, ◌+◌, ◌*◌, ◌<◌, ◌≤◌, true, ◌&&◌, List, [], ◌∷◌, length, take, refl}
 use Rattle.std.proofs.Common.{ap, ap₂, ◌∙◌, arith, take_all}
 use mathlib.Core.HLevel.{is_prop→PathP}
 use denote.Struct.Props.{props}

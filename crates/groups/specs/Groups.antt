@@ -1,5 +1,5 @@
 -- Sets of group numbers 0 to 255, as 32 bytes.
-use Rattle.std.specs.Prelude.{ℕ, zero, suc, ◌-◌, ◌/◌, ◌%◌, ◌^◌, Bool, true, not, ◌&&◌, ◌||◌, List, set, ◌==◌, bit_or, slice_index, slice_set}
+use Rattle.std.specs.Prelude.{ℕ, zero, suc, ◌-◌, ◌/◌, ◌%◌, ◌^◌, Bool, true, not, ◌&&◌, ◌||◌, List, ◌==◌, bit_or, slice_index, slice_set}
 
 -- group g is bit 7 - g % 8 of byte g / 8; bit 7 is the most significant
 abbrev pub member : List ℕ → ℕ → Bool

@@ -1,5 +1,5 @@
 -- The lists of slots of the shelves here.
-use Rattle.std.specs.Prelude.{ℕ, ◌+◌, ◌-◌, ◌*◌, ◌%◌, min, cond, List, length, set, ◌==◌, nat_lt, slice_index_or, slice_set}
+use Rattle.std.specs.Prelude.{ℕ, ◌+◌, ◌-◌, ◌*◌, ◌%◌, min, cond, List, length, ◌==◌, nat_lt, slice_index_or, slice_set}
 use Rattle.shelves.specs.declared.slot.Slot.{Slot}
 use Rattle.shelves.specs.declared.slot.Slot.TheVariants.{Empty}
 use Rattle.shelves.specs.Slots.{Slots, written}

@@ -2,7 +2,7 @@ use Rattle.std.proofs.Common.{◌≡◌, ◌≤◌, length, take, refl, ap, ◌�
 use Rattle.bounded.specs.Lists.{listed, packed}
 use Rattle.bounded.proofs.Packing.{from_listed, packed_listed, length_listed}
 use Rattle.conjunctive.specs.contracts.clause.Clause.{the_row}
-use Rattle.conjunctive.specs.Adding.{add_under, all_under}
+use Rattle.conjunctive.specs.Adding.{all_under}
 use Rattle.conjunctive.specs.Lengths.{all_under_le, under_more}
 use Rattle.conjunctive.proofs.clauses.Clauses.restart.Goals as goal
 

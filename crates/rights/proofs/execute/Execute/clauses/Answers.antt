@@ -1,5 +1,5 @@
 use Rattle.std.proofs.Common.{[], get_or, sym, ap, subst}
-use Rattle.rights.specs.Patterns.{rows, place, Agrees}
+use Rattle.rights.specs.Patterns.{rows, Agrees}
 use Rattle.rights.proofs.Agreement.{agrees}
 use Rattle.rights.proofs.execute.Execute.clauses.Goals as goal
 
