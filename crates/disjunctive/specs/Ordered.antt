@@ -1,7 +1,7 @@
 -- Lists whose keys rise, and what is left out of them or put in.
 use Rattle.std.specs.Prelude.{◌≡◌, ℕ, ◌+◌, ◌<◌, ◌≤◌, Bool, true, false, cond, ltb, List, [], ◌∷◌, ◌++◌, map, length, filter, ◌≢◌, nat_lt, refl}
 use Rattle.std.proofs.Common.{arith, length-append}
-use Rattle.std.specs.List.{AllByRecursion as All}
+use Rattle.std.specs.List.{AllByRecursion}
 use Rattle.std.proofs.ByRecursion.{All-append, all_kept_by, All-weaker, kept_by_passes}
 use Rattle.std.proofs.lemmas.Bool.{and_from, and_parts, both_ways, lt-ltb, ltb-true}
 use Rattle.lines.specs.Lines.{above, rising}
@@ -35,21 +35,21 @@ module _ {X : Type 0} (key : X → ℕ) where
             (λ y p q. omega (arith, ltb-true (key y) (key x) p, ltb-true (key x) (key y) q)),
       )
 
-  pub all_placed : (P : X → Type 0) (x : X) (xs : List X) → P x → All P xs → All P (placed key x xs)
+  pub all_placed : (P : X → Type 0) (x : X) (xs : List X) → P x → AllByRecursion P xs → AllByRecursion P (placed key x xs)
   all_placed P x xs here h =
       All-append P (filter (λ y. ltb (key y) (key x)) xs) (x ∷ filter (λ y. ltb (key x) (key y)) xs)
       (all_kept_by (λ y. ltb (key y) (key x)) P xs h) (here, all_kept_by (λ y. ltb (key x) (key y)) P xs h)
 
   -- the key is below that of each
   abbrev pub Below : X → List X → Type 0
-  Below x ys = All (λ y. key x < key y) ys
+  Below x ys = AllByRecursion (λ y. key x < key y) ys
 
   -- each key is below all that come after
   abbrev pub Rises : List X → Type 0
   Rises [] = Unit {0}
   Rises (x ∷ xs) = Below x xs × Rises xs
 
-  pub rises_append : (xs ys : List X) → Rises xs → Rises ys → All (λ x. Below x ys) xs → Rises (xs ++ ys)
+  pub rises_append : (xs ys : List X) → Rises xs → Rises ys → AllByRecursion (λ x. Below x ys) xs → Rises (xs ++ ys)
   rises_append [] ys h k f = k
   rises_append (x ∷ xs) ys h k f = (All-append (λ y. key x < key y) xs ys h.0 f.0, rises_append xs ys h.1 k f.1)
 
@@ -74,7 +74,7 @@ module _ {X : Type 0} (key : X → ℕ) where
       (All-weaker (λ y. below y ≡ true) (λ y. Below y (x ∷ filter over xs)) under (filter below xs) (kept_by_passes below xs))
 
   -- the same by the tests
-  above_from : (k : ℕ) (xs : List X) → All (λ y. k < key y) xs → Rises xs → above k (map key xs) ≡ true
+  above_from : (k : ℕ) (xs : List X) → AllByRecursion (λ y. k < key y) xs → Rises xs → above k (map key xs) ≡ true
   above_from k [] f h = refl
   above_from k (x ∷ xs) f h = and_from (nat_lt k (key x)) (above (key x) (map key xs)) (lt-ltb k (key x) f.0) (above_from (key x) xs h.0 h.1)
 
@@ -82,7 +82,7 @@ module _ {X : Type 0} (key : X → ℕ) where
   rising_from [] h = refl
   rising_from (x ∷ xs) h = above_from (key x) xs h.0 h.1
 
-  above_all : (k : ℕ) (xs : List X) → above k (map key xs) ≡ true → All (λ y. k < key y) xs × Rises xs
+  above_all : (k : ℕ) (xs : List X) → above k (map key xs) ≡ true → AllByRecursion (λ y. k < key y) xs × Rises xs
   above_all k [] e = (tt, tt)
   above_all k (x ∷ xs) e =
       let p = and_parts (nat_lt k (key x)) (above (key x) (map key xs)) e in

@@ -2,7 +2,7 @@
 use Rattle.std.specs.Prelude.{◌≡◌, ℕ, Bool, true, false, cond, not, ◌&&◌, ◌||◌, ltb, List, [], ◌∷◌, filter, ◌==◌, nat_lt, refl}
 use Rattle.std.proofs.Common.{sym, ap, ap₂, ◌∙◌, inl, inr, arith}
 use Rattle.std.proofs.Math.Bool.{or_assoc}
-use Rattle.std.specs.List.{AllByRecursion as All}
+use Rattle.std.specs.List.{AllByRecursion}
 use Rattle.std.proofs.lemmas.Bool.{and_parts, or_cases, or_from, or_left, or_parts, or_right}
 use Rattle.std.proofs.lemmas.Bool.Decides.{nat_tests}
 use Rattle.bounded.specs.Tests.{all_of, any_of}
@@ -58,10 +58,10 @@ module _ {X : Type 0} where
         | inr t ↦ or_right (r x) (any_of r xs) (any_where p q r xs f here.1 t)
       ]
 
-  pub any_none : (p : X → Bool) (xs : List X) → All (λ x. p x ≡ false) xs → any_of p xs ≡ false
+  pub any_none : (p : X → Bool) (xs : List X) → AllByRecursion (λ x. p x ≡ false) xs → any_of p xs ≡ false
   any_none p [] h = refl
   any_none p (x ∷ xs) h = or_from (p x) (any_of p xs) h.0 (any_none p xs h.1)
 
-  pub none_any : (p : X → Bool) (xs : List X) → any_of p xs ≡ false → All (λ x. p x ≡ false) xs
+  pub none_any : (p : X → Bool) (xs : List X) → any_of p xs ≡ false → AllByRecursion (λ x. p x ≡ false) xs
   none_any p [] e = tt
   none_any p (x ∷ xs) e = let k = or_parts (p x) (any_of p xs) e in (k.0, none_any p xs k.1)

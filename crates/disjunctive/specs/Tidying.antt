@@ -1,7 +1,7 @@
 -- What the four moves leave is tidy.
 use Rattle.std.specs.Prelude.{◌≡◌, ℕ, ◌+◌, ◌<◌, ◌≤◌, Bool, true, false, cond, not, ◌&&◌, List, [], ◌∷◌, map, length, IfSome, Some, None, Option, ◌==◌, nat_eq, nat_le, refl}
 use Rattle.std.proofs.Common.{sym, ap, subst, ◌∙◌, map-id, arith, length-append}
-use Rattle.std.specs.List.{AllByRecursion as All}
+use Rattle.std.specs.List.{AllByRecursion}
 use Rattle.std.proofs.ByRecursion.{all_kept_by}
 use Rattle.std.proofs.lemmas.Bool.{and_from, and_parts, both_ways, cond_both, le-leb, leb-true, not_from_false, not-true, or_from}
 use Rattle.std.proofs.lemmas.Bool.Decides.{nat_tests}
@@ -41,7 +41,7 @@ rises_move_1 d (l ∷ ls) h =
     let own = nat_eq l.user d.owner in
     let after : Below user_of l (move_1 d ls) = all_users d (λ u. l.user < u) ls h.0 in
     rises_append user_of (piece d own l) (move_1 d ls) (piece_by d (Rises user_of) own l tt (λ k. (tt, tt))) (rises_move_1 d ls h.1)
-    (piece_by d (All (λ k. Below user_of k (move_1 d ls))) own l tt (λ k. (after, tt)))
+    (piece_by d (AllByRecursion (λ k. Below user_of k (move_1 d ls))) own l tt (λ k. (after, tt)))
 
 -- what holds with and without the line of move 2 holds after it
 move_2_by : (P : List UserLine → Type 0) (d : Directory) (o : Option OpenLine) (ls : List UserLine) → P ls
@@ -71,7 +71,7 @@ treated_grows false false g l h = tt
 
 -- treated alike, a line stays within another
 treated_within : (group others : Bool) (g u : ℕ) (a b : Line) → g < 256 → within a b ≡ true
-    → IfSome (treated group others g b) (λ k. All (λ l. within l.line k ≡ true) (its_line u (treated group others g a)))
+    → IfSome (treated group others g b) (λ k. AllByRecursion (λ l. within l.line k ≡ true) (its_line u (treated group others g a)))
 treated_within true true g u a b h i = (i, tt)
 treated_within true false g u a b h i =
     let k = within_parts a b i in
@@ -85,18 +85,18 @@ treated_within false false g u a b h i = tt
 abbrev Fits : OpenLine → UserLine → Type 0
 Fits o l = (within l.line o.line ≡ true) × (shut_out o l.user ≡ false)
 
-all_from : (o : OpenLine) (ls : List UserLine) → all_of (beside o) ls ≡ true → All (Fits o) ls
+all_from : (o : OpenLine) (ls : List UserLine) → all_of (beside o) ls ≡ true → AllByRecursion (Fits o) ls
 all_from o [] e = tt
 all_from o (l ∷ ls) e =
     let k = and_parts (beside o l) (all_of (beside o) ls) e in
     let m = and_parts (within l.line o.line) (not (shut_out o l.user)) k.0 in
     ((m.0, not-true _ m.1), all_from o ls k.1)
 
-from_all : (o : OpenLine) (ls : List UserLine) → All (Fits o) ls → all_of (beside o) ls ≡ true
+from_all : (o : OpenLine) (ls : List UserLine) → AllByRecursion (Fits o) ls → all_of (beside o) ls ≡ true
 from_all o [] h = refl
 from_all o (l ∷ ls) h = and_from _ _ (and_from _ _ h.0.0 (not_from_false _ h.0.1)) (from_all o ls h.1)
 
-its_weaker : (P Q : UserLine → Type 0) (u : ℕ) (o : Option Line) → ((l : Line) → P (line_of u l) → Q (line_of u l)) → All P (its_line u o) → All Q (its_line u o)
+its_weaker : (P Q : UserLine → Type 0) (u : ℕ) (o : Option Line) → ((l : Line) → P (line_of u l) → Q (line_of u l)) → AllByRecursion P (its_line u o) → AllByRecursion Q (its_line u o)
 its_weaker P Q u None f h = tt
 its_weaker P Q u (Some l) f h = (f l h.0, tt)
 
@@ -117,24 +117,24 @@ module _ (d : Directory) (o : OpenLine) (k : Line) (short : length (listed o.shu
       (λ _. (i, free))
       (λ e. (i, shut_law o d.owner l.user k short ∙ or_from (d.owner == l.user) (shut_out o l.user) (other e) free))
 
-  piece_fits : (own : Bool) (l : UserLine) → (l.user == d.owner) ≡ own → Fits o l → All (Fits (new d o k)) (piece d own l)
+  piece_fits : (own : Bool) (l : UserLine) → (l.user == d.owner) ≡ own → Fits o l → AllByRecursion (Fits (new d o k)) (piece d own l)
   piece_fits true l e f =
-      cond_both d.execute.owner (l ∷ []) [] (All (Fits (new d o k)))
+      cond_both d.execute.owner (l ∷ []) [] (AllByRecursion (Fits (new d o k)))
       (λ bit. (fits l (within_trans l.line o.line k f.0 grows) f.1 (λ none. absurd (both_ways d.execute.owner none bit)), tt))
       (λ _. tt)
   piece_fits false l e f =
       let alike = treated_within d.execute.group d.execute.others d.group l.user l.line o.line d.small f.0 in
-      let Still : Option Line → Type 0 = λ m. IfSome m (λ k. All (λ j. within j.line k ≡ true) (its_line l.user (treated_by d l.line))) in
+      let Still : Option Line → Type 0 = λ m. IfSome m (λ k. AllByRecursion (λ j. within j.line k ≡ true) (its_line l.user (treated_by d l.line))) in
       its_weaker (λ j. within j.line k ≡ true) (Fits (new d o k)) l.user (treated_by d l.line)
       (λ j i. fits (line_of l.user j) i f.1 (λ _. turned)) (subst Still (sym is) alike)
     where
       turned : nat_eq d.owner l.user ≡ false
       turned = grind (arith, nat_tests)
 
-  after_fits : (ls : List UserLine) → All (Fits o) ls → All (Fits (new d o k)) (move_2 d (Some o) (move_1 d ls))
+  after_fits : (ls : List UserLine) → AllByRecursion (Fits o) ls → AllByRecursion (Fits (new d o k)) (move_2 d (Some o) (move_1 d ls))
   after_fits ls h =
       let moved = all_move_1 d (Fits o) (Fits (new d o k)) ls (λ l. piece_fits (l.user == d.owner) l refl) h in
-      cond_both (given d o (move_1 d ls)) (placed user_of (line_of d.owner o.line) (move_1 d ls)) (move_1 d ls) (All (Fits (new d o k)))
+      cond_both (given d o (move_1 d ls)) (placed user_of (line_of d.owner o.line) (move_1 d ls)) (move_1 d ls) (AllByRecursion (Fits (new d o k)))
       (λ t. all_placed user_of (Fits (new d o k)) (line_of d.owner o.line) (move_1 d ls) (owner_fits t) moved)
       (λ _. moved)
     where

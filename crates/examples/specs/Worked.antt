@@ -1,4 +1,4 @@
--- Worked examples: paths, the records that they are flattened to, and the places of a scatter's slots.
+-- Worked examples: paths, and the records that they are flattened to.
 use Rattle.std.specs.Prelude.{◌≡◌, ℕ, ◌<◌, Bool, true, false, List, [], ◌∷◌, map, replicate, Some, None, Option}
 use Rattle.std.proofs.Common.{lit<}
 use Rattle.groups.specs.Groups.{inserted}
@@ -13,7 +13,6 @@ use Rattle.conjunctive.specs.Clauses.{empty}
 use Rattle.conjunctive.specs.Requirement.{conjunctions, list_of as clauses_of}
 use Rattle.lines.specs.declared.line.OpenLine.{OpenLine}
 use Rattle.disjunctive.specs.Requirement.{disjunctions, list_of as lines_of}
-use Rattle.shelves.specs.Layers.{lies}
 
 -- a directory by its owner, its group and the execute bits of owner, group and others
 abbrev pub directory : Bool → Bool → Bool → ℕ → (g : ℕ) → g < 256 → Directory
@@ -107,6 +106,3 @@ pub record Worked : Type 0 where
   pub shut_out_lines : lines shut_out ≡ []
   pub shut_out_others : others shut_out ≡ Some (set_of (1 ∷ []), none, 1 ∷ [])
   pub owner_refused : may user_1_in_1 (bits_010 1 1 (lit< tt)) ≡ false
-  pub slot_1_lies : lies 4096 1 ≡ 2731
-  pub slot_3_lies : lies 4096 3 ≡ 1
-  pub slot_4095_lies : lies 4096 4095 ≡ 1365

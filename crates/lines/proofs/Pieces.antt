@@ -1,6 +1,6 @@
 -- User lines beside the open line: what move 1 leaves of each, and when move 2 adds one.
 use Rattle.std.proofs.Common.{ℕ, Bool, true, false, cond, not, ◌&&◌, eqb, List, [], ◌∷◌, Some, None, Option}
-use Rattle.std.specs.List.{AllByRecursion as All}
+use Rattle.std.specs.List.{AllByRecursion}
 use Rattle.std.proofs.ByRecursion.{All-append}
 use Rattle.rights.specs.declared.directory.Directory.{Directory}
 use Rattle.lines.specs.declared.line.Line.{Line}
@@ -34,12 +34,12 @@ module _ (d : Directory) where
       rest None = none
       rest (Some k) = one k
 
-  pub all_move_1 : (P Q : UserLine → Type 0) (ls : List UserLine) → ((l : UserLine) → P l → All Q (piece d (eqb l.user d.owner) l)) → All P ls → All Q (move_1 d ls)
+  pub all_move_1 : (P Q : UserLine → Type 0) (ls : List UserLine) → ((l : UserLine) → P l → AllByRecursion Q (piece d (eqb l.user d.owner) l)) → AllByRecursion P ls → AllByRecursion Q (move_1 d ls)
   all_move_1 P Q [] f h = tt
   all_move_1 P Q (l ∷ ls) f h = All-append Q (piece d (eqb l.user d.owner) l) (move_1 d ls) (f l h.0) (all_move_1 P Q ls f h.1)
 
   -- what holds of each line's user still does
-  pub all_users : (F : ℕ → Type 0) (ls : List UserLine) → All (λ l. F l.user) ls → All (λ l. F l.user) (move_1 d ls)
+  pub all_users : (F : ℕ → Type 0) (ls : List UserLine) → AllByRecursion (λ l. F l.user) ls → AllByRecursion (λ l. F l.user) (move_1 d ls)
   all_users F ls =
       all_move_1 (λ l. F l.user) (λ l. F l.user) ls
-      (λ l h. piece_by (All (λ k. F k.user)) (eqb l.user d.owner) l tt (λ k. (h, tt)))
+      (λ l h. piece_by (AllByRecursion (λ k. F k.user)) (eqb l.user d.owner) l tt (λ k. (h, tt)))

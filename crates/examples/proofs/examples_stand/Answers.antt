@@ -23,8 +23,5 @@ returns c = record {
     shut_out_lines = refl;
     shut_out_others = refl;
     owner_refused = refl;
-    slot_1_lies = refl;
-    slot_3_lies = refl;
-    slot_4095_lies = refl;
   };
 }
