@@ -59,7 +59,7 @@ abbrev seen : Option OpenLine → Option (List ℕ × List ℕ × List ℕ)
 seen None = None
 seen (Some o) = Some (o.line.wanted, o.line.barred, listed o.shut)
 
--- the open line of a flattened path: wanted groups, barred groups, shut_out users
+-- the open line of a flattened path: wanted groups, barred groups, shut-out users
 abbrev pub others : List Directory → Option (List ℕ × List ℕ × List ℕ)
 others path = seen (narrowed_by disjunctions disjunctions.everyone path).others
 

@@ -44,7 +44,7 @@ abbrev pub users : List UserLine → List ℕ
 users [] = []
 users (l ∷ ls) = l.user ∷ users ls
 
--- no more shut_out users than levels, in rising order; each user line within the open line; none for a shut_out user
+-- no more shut-out users than levels, in rising order; each user line within the open line; none for a shut-out user
 abbrev pub open_tidy : ℕ → List UserLine → Option OpenLine → Bool
 open_tidy level ls None = true
 open_tidy level ls (Some o) =
@@ -62,7 +62,7 @@ free_line = record { wanted = replicate 32 0; barred = replicate 32 0; full = (r
 abbrev pub same_sets : Line → Line → Bool
 same_sets a b = within a b && within b a
 
--- no open line in both, or the same sets and the same shut_out users
+-- no open line in both, or the same sets and the same shut-out users
 abbrev pub same_open : Option OpenLine → Option OpenLine → Bool
 same_open None None = true
 same_open None (Some p) = false
