@@ -1,6 +1,7 @@
 -- The conjunctive record as a flattened requirement.
-use Rattle.std.specs.Prelude.{◌≡◌, ℕ, ◌+◌, ◌*◌, min, true, List, [], ◌∷◌, take, Some, None, Option, slice_index_or, refl}
-use Rattle.std.proofs.Common.{arith, length-take}
+use Rattle.std.specs.Prelude.{◌≡◌, ℕ, ◌+◌, ◌*◌, ◌≤◌, min, true, List, [], ◌∷◌, length, take, Some, None, Option, slice_index_or, refl}
+use Rattle.std.proofs.Common.{arith, length-take, lit≤}
+use Rattle.std.proofs.Math.Nat.{min-le_right}
 use Rattle.rights.specs.declared.pattern.Sign.{Sign}
 use Rattle.rights.specs.declared.pattern.Sign.TheVariants as sign
 use Rattle.rights.specs.declared.pattern.Shape.{Shape}
@@ -47,7 +48,7 @@ abbrev pub list_of : Conjunctive → List Clause
 list_of r = listed r.clauses.list
 
 abbrev pub everyone : Conjunctive
-everyone = record { level = 0; clauses = record { list = packed 32 empty [] }; ok = (omega arith, omega arith, refl) }
+everyone = record { level = 0; clauses = record { list = packed 32 empty [] }; ok = (lit≤ tt, lit≤ tt, refl) }
 
 -- the level below, and the list of clauses there: at most two for each level
 abbrev pub below : Conjunctive → ℕ
@@ -56,11 +57,15 @@ below r = min (r.level + 1) 16
 abbrev pub list_below : Conjunctive → Directory → Bounded Clause 32
 list_below r d = packed 32 r.clauses.list.filler (take (2 * below r) (clauses_after d (list_of r)))
 
+-- of k clauses, those that the record has places for
+pub length_few : {X : Type 0} (k : ℕ) (xs : List X) → length (take 32 (take k xs)) ≤ k
+length_few k xs = omega (arith, length-take 32 (take k xs), length-take k xs)
+
 abbrev pub record_below : (r : Conjunctive) (d : Directory) → tidy (listed (list_below r d)) ≡ true → Conjunctive
 record_below r d apart = record {
   level = below r;
   clauses = record { list = list_below r d };
-  ok = (omega arith, omega (arith, length-take 32 (take (2 * below r) (clauses_after d (list_of r))), length-take (2 * below r) (clauses_after d (list_of r))), apart);
+  ok = (min-le_right (r.level + 1) 16, length_few (2 * below r) (clauses_after d (list_of r)), apart);
 }
 
 -- the record after narrowing; the test passes for whatever a narrowing makes

@@ -1,6 +1,7 @@
 -- The disjunctive record as a flattened requirement.
 use Rattle.std.specs.Prelude.{◌+◌, min, ◌&&◌, ◌||◌, List, [], Some, refl}
-use Rattle.std.proofs.Common.{arith}
+use Rattle.std.proofs.Common.{lit≤}
+use Rattle.std.proofs.Math.Nat.{min-le_right}
 use Rattle.rights.specs.declared.directory.Directory.{Directory}
 use Rattle.rights.specs.Meaning.{Meaning}
 use Rattle.bounded.specs.Lists.{listed, packed}
@@ -19,7 +20,7 @@ everyone = record {
   level = 0;
   lines = record { table = packed 16 (line_of 0 free_line) [] };
   others = Some (record { line = free_line; shut = packed 16 0 [] });
-  ok = (omega arith, refl);
+  ok = (lit≤ tt, refl);
 }
 
 -- the record after narrowing; the test that every record passes holds of what a narrowing makes
@@ -28,7 +29,7 @@ narrowed r d =
     let level = min (r.level + 1) 16 in
     let table = packed 16 r.lines.table.filler (lines_after d r.others (list_of r)) in
     let others = open_after d r.others in
-    guarded (tidy level (listed table) others) (λ e. record { level = level; lines = record { table = table }; others = others; ok = (omega arith, e) }) r
+    guarded (tidy level (listed table) others) (λ e. record { level = level; lines = record { table = table }; others = others; ok = (min-le_right (r.level + 1) 16, e) }) r
 
 abbrev pub disjunctions : Meaning Disjunctive
 disjunctions = record {
