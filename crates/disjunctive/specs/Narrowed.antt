@@ -1,5 +1,6 @@
 -- What a narrowed record holds, and when a record is the narrowed one.
 use Rattle.std.specs.Prelude.{◌≡◌, ℕ, ◌+◌, ◌<◌, min, true, length, Option, nat_le}
+use Rattle.std.proofs.Math.Nat.{min-le_right}
 use Rattle.std.proofs.Math.Path.{refl}
 use Rattle.std.proofs.Common.{sym, ap, ap₂, ◌∙◌, arith}
 use mathlib.Core.HLevel.{is_prop→PathP}
@@ -50,7 +51,7 @@ module _ (r : Disjunctive) (d : Directory) (low : r.level < 16) where
     level = min (r.level + 1) 16;
     lines = record { table = packed 16 r.lines.table.filler (lines_after d r.others (list_of r)) };
     others = open_after d r.others;
-    ok = (omega arith, passes);
+    ok = (min-le_right (r.level + 1) 16, passes);
   }
 
   narrowed_passes : narrowed r d ≡ made
