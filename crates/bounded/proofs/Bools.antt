@@ -1,14 +1,6 @@
 -- Facts about tests.
 use Rattle.std.proofs.Common.{◌≡◌, Bool, true, false, cond, ◌&&◌, ◌||◌, sym, refl, ap}
 
-pub refuted : (a : Bool) → (a ≡ true → ⊥) → a ≡ false
-refuted true f = absurd (f refl)
-refuted false f = refl
-
-pub shown : (a : Bool) → (a ≡ false → ⊥) → a ≡ true
-shown true f = refl
-shown false f = absurd (f refl)
-
 -- two tests that imply one another are the same
 pub same_by : (a b : Bool) → (a ≡ true → b ≡ true) → (b ≡ true → a ≡ true) → a ≡ b
 same_by true true f g = refl

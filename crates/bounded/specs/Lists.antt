@@ -15,3 +15,7 @@ packed n filler xs = let ys = take n xs in record {
   filler = filler;
   ok = filled n filler xs;
 }
+
+-- the record with these items in place of its own
+abbrev pub holding : {X : Type 0} {n : ℕ} → Bounded X n → List X → Bounded X n
+holding {n = n} b xs = packed n b.filler xs

@@ -1,22 +1,16 @@
--- Tests over lists, and a record that is made only where a test passes.
-use Rattle.std.specs.Prelude.{◌≡◌, Bool, true, false, ◌&&◌, ◌||◌, List, [], ◌∷◌, refl}
+-- What a closure does with the items of a list, and a record that is made only where a test passes.
+use Rattle.std.specs.Prelude.{◌≡◌, Bool, true, false, if◌then◌else◌, List, [], ◌∷◌, refl}
+use Rattle.std.specs.Fn.{FnReturnsAt}
+use denote.Param.Members.{Shared}
+use denote.Ref.{Bor, MutBor}
 
--- whether a test passes at each item
-abbrev pub all_of : {X : Type 0} → (X → Bool) → List X → Bool
-all_of p [] = true
-all_of p (x ∷ xs) = p x && all_of p xs
+-- it answers of each item as the test p does
+abbrev pub Tells : {F T : Type 0} → Shared F (Bor T × Unit {0}) Bool → F → (T → Bool) → Type 0
+Tells {F} {T} calls passes p = (x : T) (answer : Bool) → FnReturnsAt calls passes x answer → answer ≡ p x
 
--- whether a test passes at some item
-abbrev pub any_of : {X : Type 0} → (X → Bool) → List X → Bool
-any_of p [] = false
-any_of p (x ∷ xs) = p x || any_of p xs
-
--- whether two lists are as long, and alike item by item
-abbrev pub same_lists : {X : Type 0} → (X → X → Bool) → List X → List X → Bool
-same_lists same [] [] = true
-same_lists same [] (y ∷ ys) = false
-same_lists same (x ∷ xs) [] = false
-same_lists same (x ∷ xs) (y ∷ ys) = same x y && same_lists same xs ys
+-- it changes each item x that it is lent, and says whether it stays, so that f x is left
+abbrev pub Leaves : {F T : Type 0} → Shared F (MutBor T × Unit {0}) (Bool × (MutBor T × Unit {0})) → F → (T → List T) → Type 0
+Leaves {F} {T} calls change f = (x y : MutBor T) (stays : Bool) → calls.post change (x, tt) (stays, (y, tt)) → (if stays then y.now ∷ [] else []) ≡ f x.now
 
 -- what a test that passes makes, else what there was
 abbrev pub guarded : {A : Type 0} (test : Bool) → (test ≡ true → A) → A → A

@@ -10,6 +10,7 @@ pub struct Bounded<T: Copy, const N: usize> {
     ghost ok: { (count ≤ N) × (length items ≡ N) × (drop count items ≡ replicate (N - count) filler) },
 }
 
+// Written out, since a struct of a parameter's items with a ghost field has no derive of these.
 impl<T: Copy, const N: usize> Copy for Bounded<T, N> {}
 
 impl<T: Copy, const N: usize> Clone for Bounded<T, N> {

@@ -1,7 +1,8 @@
 // Making a list, adding to it, reading it.
-ghost use Rattle.std.specs.Prelude.{◌≡◌, ◌<◌, [], ◌∷◌, ◌++◌, length, nat_lt};
-ghost use Rattle.bounded.specs.Lists.{listed, packed};
+ghost use Rattle.std.specs.Prelude.{◌≡◌, ◌<◌, [], ◌∷◌, ◌++◌, length, is_ok, nat_lt};
+ghost use Rattle.bounded.specs.Lists.{holding, listed, packed};
 
+use crate::full::Full;
 use crate::list::Bounded;
 
 impl<T: Copy, const N: usize> Bounded<T, N> {
@@ -15,23 +16,22 @@ impl<T: Copy, const N: usize> Bounded<T, N> {
         }
     }
 
-    // Adds an item at the end, or leaves a full list as it was; says whether there was room.
-    pub fn push(&mut self, item: T) -> bool
-        ensures room { result ≡ nat_lt (length (listed self.old)) N }
-        ensures list { self.new ≡ packed N self.old.filler (listed self.old ++ (item ∷ [])) }
+    // Adds an item at the end; a full list refuses it, and stays as it was.
+    pub fn push(&mut self, item: T) -> Result<(), Full>
+        ensures room { is_ok result ≡ nat_lt (length (listed self.old)) N }
+        ensures list { self.new ≡ holding self.old (listed self.old ++ (item ∷ [])) }
     {
         if self.count >= N {
-            return false;
+            return Err(Full);
         }
         self.items[self.count] = item;
         self.count += 1;
-        true
+        Ok(())
     }
 
     pub fn as_slice(&self) -> &[T]
         ensures { result.now ≡ listed self.now }
     {
-        let all = &self.items[..];
-        &all[0..self.count]
+        &self.items[..self.count]
     }
 }

@@ -1,3 +1,3 @@
 pub mod Anew
-pub mod Containment
-pub mod Settling
+pub mod Firsts
+pub mod Records

@@ -1,21 +1,20 @@
 -- Adding a clause to a list of clauses, by the first rule that settles it.
 use Rattle.std.specs.Prelude.{◌≡◌, ℕ, Bool, cond, not, List, [], ◌∷◌, ◌++◌, Some, None, filter, Option, ◌==◌}
-use Rattle.bounded.specs.Tests.{any_of}
-use Rattle.conjunctive.specs.declared.clause.UserLiteral.{UserLiteral}
-use Rattle.conjunctive.specs.declared.clause.UserLiteral.TheVariants as user
-use Rattle.conjunctive.specs.declared.clause.GroupLiteral.{GroupLiteral}
+use Rattle.std.specs.List.{list_any}
+use Rattle.conjunctive.specs.declared.clause.Literal.{Literal}
+use Rattle.conjunctive.specs.declared.clause.Literal.TheVariants.{Positive, Negative}
 use Rattle.conjunctive.specs.declared.clause.Clause.{Clause}
 use Rattle.conjunctive.specs.Clauses.{within, empty, is_empty, lone, lone_in}
 
 -- rule 3, where the list has [user is u]: None where the clause is dropped, else what is left of it
-abbrev pub struck : ℕ → UserLiteral → GroupLiteral → Option Clause
-struck u user.Absent g = Some (record { user = user.Absent; group = g })
-struck u (user.Is v) g = cond (v == u) None (Some (record { user = user.Absent; group = g }))
-struck u (user.IsNot v) g = cond (v == u) (Some (record { user = user.Absent; group = g })) None
+abbrev pub struck : ℕ → Option (Literal ℕ) → Option (Literal ℕ) → Option Clause
+struck u None g = Some (record { user = None; group = g })
+struck u (Some (Positive v)) g = cond (v == u) None (Some (record { user = None; group = g }))
+struck u (Some (Negative v)) g = cond (v == u) (Some (record { user = None; group = g })) None
 
 -- rule 4: a clause of the list has only literals of c
 abbrev pub covers : List Clause → Clause → Bool
-covers xs c = any_of (λ x. within x c) xs
+covers xs c = list_any (λ x. within x c) xs
 
 -- rule 6: clauses that have all literals of c are taken out, and c goes to the end
 abbrev pub ended : List Clause → Clause → List Clause
@@ -32,7 +31,7 @@ put_left xs (Some c) = cond (is_empty c) (empty ∷ []) (put xs c)
 
 -- rules 1 to 4 and 6, where the list has [user is u]
 abbrev pub add_under : ℕ → List Clause → Clause → List Clause
-add_under u xs c = cond (any_of is_empty xs) xs (cond (is_empty c) (empty ∷ []) (put_left xs (struck u c.user c.group)))
+add_under u xs c = cond (list_any is_empty xs) xs (cond (is_empty c) (empty ∷ []) (put_left xs (struck u c.user c.group)))
 
 abbrev pub all_under : ℕ → List Clause → List Clause → List Clause
 all_under u xs [] = xs
@@ -50,7 +49,7 @@ add_by None xs c = cond (covers xs c) xs (put_lone xs c (lone c))
 
 -- rule 1: a list with the empty clause stays; rule 2: an empty clause replaces the whole list; else rules 3 to 6
 abbrev pub added : List Clause → Clause → List Clause
-added xs c = cond (any_of is_empty xs) xs (cond (is_empty c) (empty ∷ []) (add_by (lone_in xs) xs c))
+added xs c = cond (list_any is_empty xs) xs (cond (is_empty c) (empty ∷ []) (add_by (lone_in xs) xs c))
 
 -- clauses added one after another, by all the rules
 abbrev pub all_added : List Clause → List Clause → List Clause

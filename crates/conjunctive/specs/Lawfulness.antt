@@ -1,22 +1,21 @@
 -- The conjunctive record keeps the laws of a form.
-use Rattle.std.specs.Prelude.{◌≡◌, ℕ, ◌+◌, ◌*◌, ◌<◌, ◌≤◌, true, ◌&&◌, List, [], ◌∷◌, length, take, refl}
-use Rattle.std.proofs.Common.{ap, ap₂, ◌∙◌, arith, take_all}
+use Rattle.std.specs.Prelude.{◌≡◌, ℕ, ◌+◌, ◌*◌, ◌<◌, ◌≤◌, true, List, [], ◌∷◌, length, take, refl}
+use Rattle.std.proofs.Common.{ap, ◌∙◌, arith, take_all}
 use mathlib.Core.HLevel.{is_prop→PathP}
 use denote.Struct.Props.{props}
-use Rattle.std.proofs.lemmas.Bool.{false≢true, and_parts}
+use Rattle.std.proofs.lemmas.Bool.{false≢true}
 use Rattle.rights.specs.Subjects.{Who}
 use Rattle.rights.specs.Meaning.{Lawful}
 use Rattle.rights.specs.declared.directory.Directory.{Directory}
 use Rattle.bounded.specs.Lists.{listed, packed}
-use Rattle.bounded.specs.Tests.{same_lists}
-use Rattle.bounded.proofs.Bools.{same_by}
+use Rattle.std.specs.Cmp.Lexicographic.{pointwise}
 use Rattle.bounded.proofs.Guards.{guarded_passes}
 use Rattle.bounded.proofs.Packing.{packed_listed, length_listed}
 use Rattle.conjunctive.specs.contracts.clause.Clause.{the_row}
 use Rattle.conjunctive.specs.declared.clause.Clause.{Clause}
 use Rattle.conjunctive.specs.declared.clauses.Clauses.{Clauses}
 use Rattle.conjunctive.specs.declared.record.Conjunctive.{Conjunctive, ok-type}
-use Rattle.conjunctive.specs.Clauses.{holds, all_hold, within, same_clause, tidy}
+use Rattle.conjunctive.specs.Clauses.{all_hold, same_clause, tidy}
 use Rattle.conjunctive.specs.Requirement.{clauses_after, list_of, below, list_below, record_below, narrowed, conjunctions}
 use Rattle.conjunctive.specs.Meeting.{more}
 use Rattle.conjunctive.specs.Rows.{after_le, after_tidy, after_says}
@@ -60,14 +59,11 @@ module _ (r : Conjunctive) (d : Directory) (low : r.level < 16) where
   pub narrowed_clauses : list_of (narrowed r d) ≡ clauses_after d (list_of r)
   narrowed_clauses = ap list_of made ∙ held
 
-same_says : (xs ys : List Clause) (w : Who) → same_lists same_clause xs ys ≡ true → all_hold xs w ≡ all_hold ys w
+same_says : (xs ys : List Clause) (w : Who) → pointwise same_clause xs ys ≡ true → all_hold xs w ≡ all_hold ys w
 same_says [] [] w e = refl
 same_says [] (y ∷ ys) w e = absurd (false≢true e)
-same_says (x ∷ xs) [] w e = absurd (false≢true e)
-same_says (x ∷ xs) (y ∷ ys) w e =
-    let parts = and_parts (same_clause x y) (same_lists same_clause xs ys) e in
-    let each = and_parts (within x y) (within y x) parts.0 in
-    ap₂ ◌&&◌ (same_by (holds x w) (holds y w) (more w x y each.0) (more w y x each.1)) (same_says xs ys w parts.1)
+same_says (x ∷ xs) [] w e = grind arith
+same_says (x ∷ xs) (y ∷ ys) w e = grind (arith, more w x y, more w y x, same_says xs ys w)
 
 pub lawful : Lawful conjunctions
 lawful = record {

@@ -1,5 +1,5 @@
 -- The conjunctive record as a flattened requirement.
-use Rattle.std.specs.Prelude.{◌≡◌, ℕ, ◌+◌, ◌*◌, ◌≤◌, min, true, List, [], ◌∷◌, length, take, Some, None, Option, slice_index_or, refl}
+use Rattle.std.specs.Prelude.{◌≡◌, ℕ, ◌+◌, ◌*◌, ◌≤◌, min, true, List, [], ◌∷◌, length, take, option_map, slice_index_or, refl}
 use Rattle.std.proofs.Common.{arith, length-take, lit≤}
 use Rattle.std.proofs.Math.Nat.{min-le_right}
 use Rattle.rights.specs.declared.pattern.Sign.{Sign}
@@ -10,35 +10,27 @@ use Rattle.rights.specs.Patterns.{place, rows}
 use Rattle.rights.specs.Meaning.{Meaning}
 use Rattle.bounded.specs.declared.list.Bounded.{Bounded}
 use Rattle.bounded.specs.Lists.{listed, packed}
-use Rattle.bounded.specs.Tests.{guarded, same_lists}
-use Rattle.conjunctive.specs.declared.clause.UserLiteral.{UserLiteral}
-use Rattle.conjunctive.specs.declared.clause.UserLiteral.TheVariants as user
-use Rattle.conjunctive.specs.declared.clause.GroupLiteral.{GroupLiteral}
-use Rattle.conjunctive.specs.declared.clause.GroupLiteral.TheVariants as group
+use Rattle.std.specs.Cmp.Lexicographic.{pointwise}
+use Rattle.bounded.specs.Tests.{guarded}
+use Rattle.conjunctive.specs.declared.clause.Literal.{Literal}
+use Rattle.conjunctive.specs.declared.clause.Literal.TheVariants as literal
 use Rattle.conjunctive.specs.declared.clause.Clause.{Clause}
 use Rattle.conjunctive.specs.declared.record.Conjunctive.{Conjunctive}
 use Rattle.conjunctive.specs.Clauses.{all_hold, empty, same_clause, tidy}
 use Rattle.conjunctive.specs.Adding.{added}
 
-abbrev pub user_of : ℕ → Sign → UserLiteral
-user_of u sign.Absent = user.Absent
-user_of u sign.Positive = user.Is u
-user_of u sign.Negative = user.IsNot u
-
-abbrev pub group_of : ℕ → Sign → GroupLiteral
-group_of g sign.Absent = group.Absent
-group_of g sign.Positive = group.In g
-group_of g sign.Negative = group.NotIn g
+abbrev pub literal_of : {N : Type 0} → Sign → N → Literal N
+literal_of sign.Positive n = literal.Positive n
+literal_of sign.Negative n = literal.Negative n
 
 -- a clause of a pattern, at an owner and a group
 abbrev pub clause_of : ℕ → ℕ → Shape → Clause
-clause_of u g s = record { user = user_of u s.user; group = group_of g s.group }
+clause_of u g s = record { user = option_map (λ t. literal_of t u) s.user; group = option_map (λ t. literal_of t g) s.group }
 
 -- the clauses of a pattern added in order
-abbrev pub with_row : ℕ → ℕ → List Clause → List (Option Shape) → List Clause
+abbrev pub with_row : ℕ → ℕ → List Clause → List Shape → List Clause
 with_row u g xs [] = xs
-with_row u g xs (None ∷ row) = with_row u g xs row
-with_row u g xs (Some s ∷ row) = with_row u g (added xs (clause_of u g s)) row
+with_row u g xs (s ∷ row) = with_row u g (added xs (clause_of u g s)) row
 
 -- the clauses after narrowing by a directory
 abbrev pub clauses_after : Directory → List Clause → List Clause
@@ -78,5 +70,5 @@ conjunctions = record {
   admits = λ r w. all_hold (list_of r) w;
   everyone = everyone;
   narrowed = narrowed;
-  same = λ a b. same_lists same_clause (list_of a) (list_of b);
+  same = λ a b. pointwise same_clause (list_of a) (list_of b);
 }

@@ -1,103 +1,69 @@
 // Clauses: at most one literal on the user and one on a group. A clause holds where one of its literals does.
-ghost use Rattle.std.specs.Prelude.{◌≡◌};
+ghost use Rattle.std.specs.Prelude.{◌≡◌, Bool, false, MatchOption};
 ghost use Rattle.rights.specs.Subjects.{who_of};
-ghost use Rattle.conjunctive.specs.Clauses.{user_holds, group_holds, holds, user_within, group_within, within, is_empty, lone};
+ghost use Rattle.conjunctive.specs.Clauses.{number_of, signed, literal_within, holds, within, is_empty, lone};
 
+use groups::contains;
 use rights::subject::Subject;
 
-#[derive(Clone, Copy)]
-pub enum UserLiteral {
-    Absent,
-    Is(u16),
-    IsNot(u16),
+// A literal on a number: positive is "user is u" or "in group g", negative "user is not u" or "not in group g".
+#[derive(Clone, Copy, PartialEq, Eq)]
+pub enum Literal<T> {
+    Positive(T),
+    Negative(T),
 }
 
-#[derive(Clone, Copy)]
-pub enum GroupLiteral {
-    Absent,
-    In(u8),
-    NotIn(u8),
-}
-
-#[derive(Clone, Copy)]
+#[derive(Clone, Copy, PartialEq, Eq)]
 pub struct Clause {
-    pub user: UserLiteral,
-    pub group: GroupLiteral,
+    pub user: Option<Literal<u16>>,
+    pub group: Option<Literal<u8>>,
 }
 
-impl UserLiteral {
-    fn holds(self, subject: &Subject<'_>) -> bool
-        ensures { result ≡ user_holds self (who_of subject.now) }
-    {
-        match self {
-            UserLiteral::Absent => false,
-            UserLiteral::Is(u) => subject.user == u,
-            UserLiteral::IsNot(u) => subject.user != u,
-        }
-    }
-
-    fn within(self, other: UserLiteral) -> bool
-        ensures { result ≡ user_within self other }
-    {
-        match (self, other) {
-            (UserLiteral::Absent, _) => true,
-            (UserLiteral::Is(a), UserLiteral::Is(b)) => a == b,
-            (UserLiteral::IsNot(a), UserLiteral::IsNot(b)) => a == b,
-            _ => false,
-        }
+// Whether there is a literal that holds, where `fact` says what is so of a number.
+fn holds<T, F: FnOnce(T) -> bool>(literal: Option<Literal<T>>, fact: F) -> bool
+    requires { F.IsAlwaysCallable fact }
+    ensures { MatchOption literal (result ≡ false) (λ l. (so : Bool) × F.post fact (number_of l) so × (result ≡ signed l so)) }
+{
+    match literal {
+        None => false,
+        Some(Literal::Positive(n)) => fact(n),
+        Some(Literal::Negative(n)) => !fact(n),
     }
 }
 
-impl GroupLiteral {
-    fn holds(self, subject: &Subject<'_>) -> bool
-        ensures { result ≡ group_holds self (who_of subject.now) }
-    {
-        match self {
-            GroupLiteral::Absent => false,
-            GroupLiteral::In(g) => subject.in_group(g),
-            GroupLiteral::NotIn(g) => !subject.in_group(g),
-        }
-    }
-
-    fn within(self, other: GroupLiteral) -> bool
-        ensures { result ≡ group_within self other }
-    {
-        match (self, other) {
-            (GroupLiteral::Absent, _) => true,
-            (GroupLiteral::In(a), GroupLiteral::In(b)) => a == b,
-            (GroupLiteral::NotIn(a), GroupLiteral::NotIn(b)) => a == b,
-            _ => false,
-        }
-    }
+// Whether the other clause has this literal, if there is one.
+fn within<T: Copy + PartialEq>(literal: Option<Literal<T>>, other: Option<Literal<T>>) -> bool
+    ensures { result ≡ literal_within T.eq literal other }
+{
+    literal.is_none() || literal == other
 }
 
 impl Clause {
     // The clause without a literal, which holds of nobody.
     pub const EMPTY: Clause = Clause {
-        user: UserLiteral::Absent,
-        group: GroupLiteral::Absent,
+        user: None,
+        group: None,
     };
 
     pub fn holds(self, subject: &Subject<'_>) -> bool
         ensures { result ≡ holds self (who_of subject.now) }
     {
-        self.user.holds(subject) || self.group.holds(subject)
+        // Each closure captures one part of the subject: of one that captured a reference to it, no result would be inferred.
+        let Subject { user, groups } = *subject;
+        holds(self.user, |u| user == u) || holds(self.group, |g| contains(groups, g))
     }
 
     // Whether the other clause has all literals of this one.
     pub fn within(self, other: Clause) -> bool
         ensures { result ≡ within self other }
     {
-        self.user.within(other.user) && self.group.within(other.group)
+        within(self.user, other.user) && within(self.group, other.group)
     }
 
     pub fn is_empty(self) -> bool
         ensures { result ≡ is_empty self }
     {
-        matches!(
-            (self.user, self.group),
-            (UserLiteral::Absent, GroupLiteral::Absent)
-        )
+        self.user.is_none() && self.group.is_none()
     }
 
     // The user of a clause that is exactly "user is u".
@@ -105,7 +71,7 @@ impl Clause {
         ensures { result ≡ lone self }
     {
         match (self.user, self.group) {
-            (UserLiteral::Is(u), GroupLiteral::Absent) => Some(u),
+            (Some(Literal::Positive(u)), None) => Some(u),
             _ => None,
         }
     }

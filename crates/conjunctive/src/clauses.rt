@@ -2,7 +2,7 @@
 use crate::clause::Clause;
 use bounded::list::Bounded;
 
-#[derive(Clone, Copy)]
+#[derive(Clone, Copy, PartialEq)]
 pub struct Clauses {
     pub list: Bounded<Clause, 32>,
 }

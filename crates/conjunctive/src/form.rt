@@ -7,7 +7,6 @@ ghost use Rattle.conjunctive.specs.Lawfulness;
 use crate::clause::Clause;
 use crate::clauses::Clauses;
 use crate::record::Conjunctive;
-use bounded::alike::same_lists;
 use bounded::list::Bounded;
 use rights::directory::Directory;
 use rights::form::{Form, TooDeep};
@@ -50,6 +49,6 @@ impl Form for Conjunctive {
     }
 
     fn same(&self, other: &Conjunctive) -> bool {
-        same_lists(self.clauses.list.as_slice(), other.clauses.list.as_slice())
+        self.clauses == other.clauses
     }
 }

@@ -2,20 +2,20 @@
 use Rattle.std.specs.Prelude.{◌≡◌, ℕ, ◌<◌, Bool, true, false, cond, not, ◌&&◌, ◌||◌, List, [], ◌∷◌, Some, None, Option, ◌==◌, nat_eq, refl}
 use Rattle.std.proofs.Common.{sym, ap, ap₂, ◌∙◌, arith}
 use Rattle.std.proofs.Math.Bool.{or-false, and-false, and-true, and_assoc, and-or_distrib_right}
-use Rattle.std.proofs.lemmas.Bool.{and_from, and_parts, both_ways, eqb-true, not_from_false, false≢true}
+use Rattle.std.proofs.lemmas.Bool.{and_from, and_parts, both_ways, eqb-true, false_from_ne_true, not_from_false, false≢true}
 use Rattle.groups.specs.Groups.{member, subset, disjoint}
 use Rattle.groups.proofs.Sets.{subset_inserted, disjoint_inserted, subset_trans, disjoint_smaller, not_both}
 use Rattle.rights.specs.Subjects.{Who, may}
 use Rattle.rights.specs.Classes.{class_by, execute_of}
 use Rattle.rights.specs.declared.directory.Directory.{Directory}
 use Rattle.rights.specs.declared.execute.Execute.{Execute}
-use Rattle.bounded.proofs.Loops.{any_append}
+use Rattle.std.proofs.lemmas.List.Folds.{list_any-append}
 use Rattle.lines.specs.declared.line.Line.{Line}
 use Rattle.lines.specs.declared.line.UserLine.{UserLine}
 use Rattle.lines.specs.declared.line.OpenLine.{OpenLine}
 use Rattle.lines.specs.Lines.{line_admits, lines_admit, open_admits, shut_out, within}
 use Rattle.lines.specs.Moves.{treated, treated_by, its_line, move_1, consistent, move_4_open, covered, move_4}
-use Rattle.bounded.proofs.Bools.{and_same, cond_same, refuted}
+use Rattle.bounded.proofs.Bools.{and_same, cond_same}
 use Rattle.lines.proofs.Pieces.{piece}
 use Rattle.disjunctive.specs.Tested.{any_kept_or}
 
@@ -77,7 +77,7 @@ module _ (d : Directory) (w : Who) where
       let own = nat_eq l.user d.owner in
       let rule : passes w l ≡ true → execute_of d.execute (class_by own (member w.groups d.group)) ≡ may w d =
       λ t. ap (λ u. execute_of d.execute (class_by (u == d.owner) (member w.groups d.group))) (eqb-true l.user w.user (and_parts (l.user == w.user) _ t).0) in
-      any_append (passes w) (piece d own l) (move_1 d ls)
+      list_any-append (passes w) (piece d own l) (move_1 d ls)
       ∙ ap₂ ◌||◌ (piece_law own l ∙ and_same (passes w l) _ (may w d) rule) (move_1_law ls)
       ∙ sym (and-or_distrib_right (passes w l) (lines_admit ls w) (may w d))
 
@@ -104,7 +104,7 @@ move_4_open_law (Some o) w = by (consistent o.line) (λ t. admits_consistent o.l
   where
     by : (b : Bool) → (open_admits (Some o) w ≡ true → b ≡ true) → open_admits (cond b (Some o) None) w ≡ open_admits (Some o) w
     by true f = refl
-    by false f = sym (refuted (open_admits (Some o) w) (λ t. false≢true (f t)))
+    by false f = sym (false_from_ne_true (open_admits (Some o) w) (λ t. false≢true (f t)))
 
 covered_law : (p : Option OpenLine) (l : UserLine) (w : Who) → passes w l ≡ true → covered p l ≡ true → open_admits p w ≡ true
 covered_law None l w t c = c
@@ -120,4 +120,4 @@ move_4_law p ls w = any_kept_or (λ l. consistent l.line && not (covered p l)) (
     stays : (l : UserLine) → passes w l ≡ true → open_admits p w ≡ false → (consistent l.line && not (covered p l)) ≡ true
     stays l t none =
         and_from (consistent l.line) (not (covered p l)) (admits_consistent l.line w (and_parts (l.user == w.user) (line_admits l.line w) t).1)
-        (not_from_false (covered p l) (refuted (covered p l) (λ c. both_ways (open_admits p w) none (covered_law p l w t c))))
+        (not_from_false (covered p l) (false_from_ne_true (covered p l) (λ c. both_ways (open_admits p w) none (covered_law p l w t c))))

@@ -2,20 +2,19 @@
 use Rattle.std.specs.Prelude.{◌≡◌, ℕ, ◌<◌, Bool, true, false, cond, not, ◌&&◌, ◌||◌, List, [], ◌∷◌, length, Some, None, Option, ◌==◌, nat_eq, nat_le, refl}
 use Rattle.std.proofs.Common.{sym, ap, ap₂, ◌∙◌, arith}
 use Rattle.std.proofs.Math.Bool.{or-false, and-false, and-true}
-use Rattle.std.proofs.lemmas.Bool.{and_from, and_parts, both_ways, or_parts, leb-true, eqb-true, not-true}
+use Rattle.std.proofs.lemmas.Bool.{and_from, and_parts, both_ways, or_parts, leb-true, eqb-true, not-true, true_from_ne_false}
 use Rattle.std.proofs.lemmas.Bool.Decides.{nat_tests}
 use Rattle.groups.specs.Groups.{member}
 use Rattle.rights.specs.Subjects.{Who, may}
 use Rattle.rights.specs.declared.directory.Directory.{Directory}
 use Rattle.bounded.specs.Lists.{listed}
-use Rattle.bounded.specs.Tests.{all_of, any_of}
+use Rattle.std.specs.List.{list_all, list_any}
 use Rattle.lines.specs.declared.line.Line.{Line}
 use Rattle.lines.specs.declared.line.UserLine.{UserLine}
 use Rattle.lines.specs.declared.line.OpenLine.{OpenLine}
 use Rattle.lines.specs.Lines.{line_admits, lines_admit, open_admits, has, shut_out, users, within, rising, tidy, open_tidy}
 use Rattle.bounded.specs.Places.{placed}
 use Rattle.lines.specs.Moves.{treated_by, line_of, move_1, move_2, move_3, reopened, open_after, lines_after}
-use Rattle.bounded.proofs.Bools.{shown}
 use Rattle.disjunctive.specs.Tested.{any_none, any_placed, any_where, none_any}
 use Rattle.lines.proofs.Pieces.{all_users, beside, given}
 use Rattle.disjunctive.specs.Shutting.{shut_law}
@@ -31,12 +30,12 @@ reopened_law false u o (Some l) w h = ap (λ b. not b && line_admits l w) (shut_
     turn : (e s t : Bool) → (not (e || s) && t) ≡ ((not s && not e) && t)
     turn e s t = grind arith
 
-has_users : (ls : List UserLine) (u : ℕ) → has (users ls) u ≡ any_of (λ l. nat_eq l.user u) ls
+has_users : (ls : List UserLine) (u : ℕ) → has (users ls) u ≡ list_any (λ l. nat_eq l.user u) ls
 has_users [] u = refl
 has_users (l ∷ ls) u = ap (λ b. (l.user == u) || b) (has_users ls u)
 
 -- leaving out a user who has no line leaves out nothing
-absent : (p : UserLine → Bool) (u : ℕ) (ls : List UserLine) → has (users ls) u ≡ false → any_of (λ l. not (l.user == u) && p l) ls ≡ any_of p ls
+absent : (p : UserLine → Bool) (u : ℕ) (ls : List UserLine) → has (users ls) u ≡ false → list_any (λ l. not (l.user == u) && p l) ls ≡ list_any p ls
 absent p u [] e = refl
 absent p u (l ∷ ls) e =
     let k = or_parts (l.user == u) (has (users ls) u) e in
@@ -74,15 +73,15 @@ moves_sum true false other lines free sets has s e f = grind arith
 moves_sum false bit other lines free sets has s e f = grind arith
 
 -- where the owner has a line, it admits the owner if the open line's sets do
-owner_law : (d : Directory) (o : OpenLine) (ls : List UserLine) (w : Who) → all_of (beside o) ls ≡ true
+owner_law : (d : Directory) (o : OpenLine) (ls : List UserLine) (w : Who) → list_all (beside o) ls ≡ true
     → (w.user == d.owner) ≡ true → has (users (move_1 d ls)) d.owner ≡ true → line_admits o.line w ≡ true → lines_admit ls w ≡ true
 owner_law d o ls w all own h t =
-    let old = shown (has (users ls) d.owner) (λ e. both_ways (has (users (move_1 d ls)) d.owner) (move_1_users d d.owner ls e) h) in
+    let old = true_from_ne_false (has (users ls) d.owner) (λ e. both_ways (has (users (move_1 d ls)) d.owner) (move_1_users d d.owner ls e) h) in
     any_where (beside o) (λ l. nat_eq l.user w.user) (passes w) ls
     (λ l i e. and_from (l.user == w.user) (line_admits l.line w) e (admits_within l.line o.line w (and_parts (within l.line o.line) _ i).0 t))
     all (sym (has_users ls w.user) ∙ ap (has (users ls)) (eqb-true w.user d.owner own) ∙ old)
 
-narrow_open : (d : Directory) (o : OpenLine) (ls : List UserLine) (w : Who) → length (listed o.shut) < 16 → all_of (beside o) ls ≡ true
+narrow_open : (d : Directory) (o : OpenLine) (ls : List UserLine) (w : Who) → length (listed o.shut) < 16 → list_all (beside o) ls ≡ true
     → (lines_admit (move_2 d (Some o) (move_1 d ls)) w || open_admits (move_3 d (Some o)) w) ≡ ((lines_admit ls w || open_admits (Some o) w) && may w d)
 narrow_open d o ls w short all =
     let own = nat_eq w.user d.owner in

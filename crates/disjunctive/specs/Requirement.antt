@@ -5,7 +5,8 @@ use Rattle.std.proofs.Math.Nat.{min-le_right}
 use Rattle.rights.specs.declared.directory.Directory.{Directory}
 use Rattle.rights.specs.Meaning.{Meaning}
 use Rattle.bounded.specs.Lists.{listed, packed}
-use Rattle.bounded.specs.Tests.{guarded, same_lists}
+use Rattle.std.specs.Cmp.Lexicographic.{pointwise}
+use Rattle.bounded.specs.Tests.{guarded}
 use Rattle.lines.specs.declared.line.UserLine.{UserLine}
 use Rattle.disjunctive.specs.declared.record.Disjunctive.{Disjunctive}
 use Rattle.lines.specs.Lines.{free_line, same_line, same_open, lines_admit, open_admits, tidy}
@@ -37,5 +38,5 @@ disjunctions = record {
   admits = λ r w. lines_admit (list_of r) w || open_admits r.others w;
   everyone = everyone;
   narrowed = narrowed;
-  same = λ a b. same_lists same_line (list_of a) (list_of b) && same_open a.others b.others;
+  same = λ a b. pointwise same_line (list_of a) (list_of b) && same_open a.others b.others;
 }

@@ -4,7 +4,7 @@ use Rattle.std.proofs.Common.{ap, ◌∙◌, arith}
 use Rattle.std.specs.Coded.{coded_ℕ}
 use Rattle.std.proofs.lemmas.Bool.Decides.{nat_tests}
 use Rattle.bounded.specs.Lists.{listed, packed}
-use Rattle.bounded.specs.Tests.{any_of}
+use Rattle.std.specs.List.{list_any}
 use Rattle.bounded.proofs.Packing.{packed_listed}
 use Rattle.lines.specs.declared.line.Line.{Line}
 use Rattle.lines.specs.declared.line.OpenLine.{OpenLine}
@@ -20,9 +20,9 @@ has_placed us u v = any_placed (λ k. k) (λ k. nat_eq k v) u us ∙ by us
     step : (a b c : ℕ) (t s : Bool) → (b == c || t) ≡ (b == c || s) → (b == c || (not (a == b) && a == c || t)) ≡ (b == c || (a == c || s))
     step a b c t s e = grind (arith, nat_tests)
 
-    by : (ks : List ℕ) → (u == v || any_of (λ k. not (k == u) && k == v) ks) ≡ (u == v || has ks v)
+    by : (ks : List ℕ) → (u == v || list_any (λ k. not (k == u) && k == v) ks) ≡ (u == v || has ks v)
     by [] = refl
-    by (k ∷ ks) = step k u v (any_of (λ k. not (k == u) && k == v) ks) (has ks v) (by ks)
+    by (k ∷ ks) = step k u v (list_any (λ k. not (k == u) && k == v) ks) (has ks v) (by ks)
 
 -- there is room for one more
 pub shut_placed : (o : OpenLine) (u : ℕ) → length (listed o.shut) < 16

@@ -1,20 +1,20 @@
 -- What the four moves leave is tidy.
 use Rattle.std.specs.Prelude.{◌≡◌, ℕ, ◌+◌, ◌<◌, ◌≤◌, Bool, true, false, cond, not, ◌&&◌, List, [], ◌∷◌, map, length, IfSome, Some, None, Option, ◌==◌, nat_eq, nat_le, refl}
 use Rattle.std.proofs.Common.{sym, ap, subst, ◌∙◌, map-id, arith, length-append}
-use Rattle.std.specs.List.{AllByRecursion}
+use Rattle.std.specs.List.{AllByRecursion, list_all}
 use Rattle.std.proofs.ByRecursion.{all_kept_by}
 use Rattle.std.proofs.lemmas.Bool.{and_from, and_parts, both_ways, cond_both, le-leb, leb-true, not_from_false, not-true, or_from}
 use Rattle.std.proofs.lemmas.Bool.Decides.{nat_tests}
-use Rattle.groups.proofs.Sets.{subset_refl, subset_trans, subset_grows, subset_gains}
+use Rattle.groups.proofs.Sets.{subset_refl, subset_grows, subset_gains}
 use Rattle.rights.specs.declared.directory.Directory.{Directory}
 use Rattle.bounded.specs.Lists.{listed}
-use Rattle.bounded.specs.Tests.{all_of}
 use Rattle.lines.specs.declared.line.Line.{Line}
 use Rattle.lines.specs.declared.line.UserLine.{UserLine}
 use Rattle.lines.specs.declared.line.OpenLine.{OpenLine}
 use Rattle.lines.specs.Lines.{has, shut_out, users, within, rising, tidy, open_tidy}
 use Rattle.bounded.specs.Places.{placed}
 use Rattle.lines.specs.Moves.{treated, treated_by, line_of, its_line, move_1, move_2, shut_with, reopened, consistent, covered, move_4, move_4_open, open_after, lines_after}
+use Rattle.lines.specs.Sameness.{within_trans}
 use Rattle.disjunctive.specs.Ordered.{length_kept, length_placed, all_placed, Below, Rises, rises_append, rises_kept, rises_placed, rises_from, rising_from}
 use Rattle.lines.proofs.Pieces.{piece, piece_by, all_move_1, all_users, beside, given}
 use Rattle.disjunctive.specs.Shutting.{shut_placed, shut_law}
@@ -56,12 +56,6 @@ length_move_2 d o ls = move_2_by (λ ks. length ks ≤ length ls + 1) d o ls (om
 within_refl : (l : Line) → within l l ≡ true
 within_refl l = and_from _ _ (subset_refl l.wanted) (subset_refl l.barred)
 
-within_trans : (a b c : Line) → within a b ≡ true → within b c ≡ true → within a c ≡ true
-within_trans a b c p q =
-    let h = within_parts a b p in
-    let k = within_parts b c q in
-    and_from _ _ (subset_trans a.wanted b.wanted c.wanted h.0 k.0) (subset_trans a.barred b.barred c.barred h.1 k.1)
-
 -- a treated line has no smaller sets
 treated_grows : (group others : Bool) (g : ℕ) (l : Line) → g < 256 → IfSome (treated group others g l) (λ k. within l k ≡ true)
 treated_grows true true g l h = within_refl l
@@ -85,14 +79,14 @@ treated_within false false g u a b h i = tt
 abbrev Fits : OpenLine → UserLine → Type 0
 Fits o l = (within l.line o.line ≡ true) × (shut_out o l.user ≡ false)
 
-all_from : (o : OpenLine) (ls : List UserLine) → all_of (beside o) ls ≡ true → AllByRecursion (Fits o) ls
+all_from : (o : OpenLine) (ls : List UserLine) → list_all (beside o) ls ≡ true → AllByRecursion (Fits o) ls
 all_from o [] e = tt
 all_from o (l ∷ ls) e =
-    let k = and_parts (beside o l) (all_of (beside o) ls) e in
+    let k = and_parts (beside o l) (list_all (beside o) ls) e in
     let m = and_parts (within l.line o.line) (not (shut_out o l.user)) k.0 in
     ((m.0, not-true _ m.1), all_from o ls k.1)
 
-from_all : (o : OpenLine) (ls : List UserLine) → AllByRecursion (Fits o) ls → all_of (beside o) ls ≡ true
+from_all : (o : OpenLine) (ls : List UserLine) → AllByRecursion (Fits o) ls → list_all (beside o) ls ≡ true
 from_all o [] h = refl
 from_all o (l ∷ ls) h = and_from _ _ (and_from _ _ h.0.0 (not_from_false _ h.0.1)) (from_all o ls h.1)
 

@@ -5,11 +5,9 @@ ghost use Rattle.disjunctive.specs.Requirement.{list_of, disjunctions};
 ghost use Rattle.disjunctive.specs.Lawful;
 
 use crate::record::Disjunctive;
-use bounded::alike::same_lists;
 use bounded::list::Bounded;
-use lines::alike::same_others;
 use lines::line::{Line, OpenLine, UserLine};
-use lines::others::reopened;
+use lines::others::reopen;
 use lines::table::Lines;
 use rights::directory::Directory;
 use rights::form::{Form, TooDeep};
@@ -47,25 +45,19 @@ impl Form for Disjunctive {
         if self.level >= 16 {
             return Err(TooDeep);
         }
-        let others = reopened(self.others, directory);
         self.lines.treat(directory);
         self.lines.grant(directory, &self.others);
-        self.lines.settle(&others);
-        self.others = others;
+        reopen(&mut self.others, directory);
+        self.lines.settle(&self.others);
         self.level += 1;
         Ok(())
     }
 
     fn admits(&self, subject: &Subject<'_>) -> bool {
-        self.lines.admits(subject)
-            || match &self.others {
-                Some(open) => open.admits(subject),
-                None => false,
-            }
+        self.lines.admits(subject) || self.others.iter().any(|open| open.admits(subject))
     }
 
     fn same(&self, other: &Disjunctive) -> bool {
-        same_lists(self.lines.table.as_slice(), other.lines.table.as_slice())
-            && same_others(&self.others, &other.others)
+        self.lines == other.lines && self.others == other.others
     }
 }

@@ -6,8 +6,7 @@ use Rattle.rights.specs.declared.directory.Directory.{Directory}
 use Rattle.rights.specs.Subjects.{Who, may}
 use Rattle.rights.specs.Paths.{narrowed_by}
 use Rattle.bounded.specs.Lists.{listed}
-use Rattle.conjunctive.specs.declared.clause.UserLiteral.TheVariants as user
-use Rattle.conjunctive.specs.declared.clause.GroupLiteral.TheVariants as group
+use Rattle.conjunctive.specs.declared.clause.Literal.TheVariants.{Positive, Negative}
 use Rattle.conjunctive.specs.declared.clause.Clause.{Clause}
 use Rattle.conjunctive.specs.Clauses.{empty}
 use Rattle.conjunctive.specs.Requirement.{conjunctions, list_of as clauses_of}
@@ -35,16 +34,16 @@ abbrev pub clauses : List Directory → List Clause
 clauses path = clauses_of (narrowed_by conjunctions conjunctions.everyone path)
 
 abbrev is_or_in : ℕ → ℕ → Clause
-is_or_in u g = record { user = user.Is u; group = group.In g }
+is_or_in u g = record { user = Some (Positive u); group = Some (Positive g) }
 
 abbrev is : ℕ → Clause
-is u = record { user = user.Is u; group = group.Absent }
+is u = record { user = Some (Positive u); group = None }
 
 abbrev is_not : ℕ → Clause
-is_not u = record { user = user.IsNot u; group = group.Absent }
+is_not u = record { user = Some (Negative u); group = None }
 
 abbrev in_group : ℕ → Clause
-in_group g = record { user = user.Absent; group = group.In g }
+in_group g = record { user = None; group = Some (Positive g) }
 
 -- a set of groups
 abbrev pub set_of : List ℕ → List ℕ

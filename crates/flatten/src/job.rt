@@ -1,54 +1,56 @@
 // What the lines of an inquiry come to: a path, and after it the subjects that ask.
-ghost use Rattle.std.specs.Prelude.{◌≡◌, ◌%◌, false, [], Err};
+ghost use Rattle.std.specs.Prelude.{◌≡◌, ◌%◌, false, []};
 ghost use Rattle.rights.specs.Modes.{execute_bits};
-ghost use Rattle.rights.specs.Subjects.{who_of};
 ghost use Rattle.inquiry.specs.Lines.{line_of};
-ghost use Rattle.flatten.specs.Jobs.{path_of, asker, over_if_begun, Entered, Taken};
+ghost use Rattle.flatten.specs.declared.job.Wrong.TheVariants as wrong;
+ghost use Rattle.flatten.specs.Jobs.{path_of, ended_if_wrong, Entered, Taken};
 
+use bounded::full::Full;
 use bounded::list::Bounded;
-use groups::GroupSet;
-use inquiry::{BadLine, Line, read_line};
+use inquiry::{Asker, BadLine, Description, Line, read_line};
 use rights::directory::Directory;
 use rights::execute::Execute;
+use rights::form::TooDeep;
 use rights::mode::Mode;
-use rights::subject::Subject;
+use std::error::Error;
 use std::fmt;
 
-// A subject that asks.
-#[derive(Clone, Copy)]
-pub struct Asked {
-    pub user: u16,
-    pub groups: GroupSet,
+// What is wrong with a line.
+#[derive(Clone, Copy, PartialEq, Eq, Debug)]
+pub enum Wrong {
+    Line(BadLine),
+    TooDeep(TooDeep),
+    PathEnded,
 }
 
-impl Asked {
-    pub fn subject(&self) -> Subject<'_>
-        ensures { who_of result ≡ asker self.now }
-    {
-        Subject {
-            user: self.user,
-            groups: &self.groups,
-        }
+impl From<BadLine> for Wrong {
+    ghost from_gives = { λ bad w. w ≡ wrong.Line bad };
+
+    fn from(bad: BadLine) -> Wrong {
+        Wrong::Line(bad)
     }
 }
 
-// What is wrong with a line.
-#[derive(Clone, Copy)]
-pub enum Wrong {
-    Line(BadLine),
-    TooDeep,
-    PathEnded,
+// The list of directories is full.
+impl From<Full> for Wrong {
+    ghost from_gives = { λ _ w. w ≡ wrong.TooDeep (record {}) };
+
+    fn from(_full: Full) -> Wrong {
+        Wrong::TooDeep(TooDeep)
+    }
 }
 
 impl fmt::Display for Wrong {
     fn fmt<W: fmt::Write>(&self, f: &mut fmt::Formatter<W>) -> fmt::Result {
         match self {
             Wrong::Line(bad) => write!(f, "{bad}"),
-            Wrong::TooDeep => f.write_str("a path has at most 16 directories"),
+            Wrong::TooDeep(deep) => write!(f, "{deep}"),
             Wrong::PathEnded => f.write_str("a directory after the first subject"),
         }
     }
 }
+
+impl Error for Wrong {}
 
 const NO_EXECUTE: Execute = Execute {
     owner: false,
@@ -57,6 +59,7 @@ const NO_EXECUTE: Execute = Execute {
 };
 
 // The path so far, and whether it has ended: at the first subject, or at a line that is wrong.
+// It is read after its end as well, so the flag stands beside it.
 #[derive(Clone, Copy)]
 pub struct Job {
     path: Bounded<Directory, 16>,
@@ -67,10 +70,7 @@ pub struct Job {
 fn execute_of(mode: u16) -> Execute
     ensures { result ≡ execute_bits (mode % 512) }
 {
-    match Mode::new(mode % 512) {
-        Some(mode) => mode.execute(),
-        None => NO_EXECUTE,
-    }
+    Mode::try_from(mode % 512).unwrap().into()
 }
 
 impl Job {
@@ -103,45 +103,44 @@ impl Job {
     }
 
     // Takes one line in: a directory goes to the end of the path, a subject is handed on.
-    pub fn read(&mut self, text: &[u8]) -> Result<Option<Asked>, Wrong>
+    // A wrong line ends a path that has begun.
+    pub fn read(&mut self, text: &[u8]) -> Result<Option<Asker>, Wrong>
         ensures { Taken (line_of text.now) self.old result self.new }
     {
-        match read_line(text) {
-            Ok(Line::Directory { owner, group, mode }) => self.enter(owner, group, mode),
-            Ok(Line::Subject { user, groups }) => {
+        let taken = self.take(text);
+        if taken.is_err() {
+            self.ended |= !self.path().is_empty();
+        }
+        taken
+    }
+
+    // Takes one line in, and leaves the job as it was where the line is wrong.
+    fn take(&mut self, text: &[u8]) -> Result<Option<Asker>, Wrong>
+        ensures { Taken (line_of text.now) self.old result (ended_if_wrong result self.new) }
+    {
+        match read_line(text)? {
+            Line::Directory(description) => self.enter(description),
+            Line::Subject(asker) => {
                 self.ended = true;
-                Ok(Some(Asked { user, groups }))
+                Ok(Some(asker))
             }
-            Err(bad) => self.refuse(Wrong::Line(bad)),
         }
     }
 
-    // A wrong line ends a path that has begun.
-    fn refuse(&mut self, wrong: Wrong) -> Result<Option<Asked>, Wrong>
-        ensures answer { result ≡ Err wrong }
-        ensures after { self.new ≡ over_if_begun self.old }
-    {
-        self.ended |= !self.path().is_empty();
-        Err(wrong)
-    }
-
     // A directory goes to the end of a path that has not ended.
-    fn enter(&mut self, owner: u16, group: u8, mode: u16) -> Result<Option<Asked>, Wrong>
-        ensures { Entered owner group mode self.old result self.new }
+    fn enter(&mut self, description: Description) -> Result<Option<Asker>, Wrong>
+        ensures { Entered description self.old result (ended_if_wrong result self.new) }
     {
         if self.ended {
             return Err(Wrong::PathEnded);
         }
         let directory = Directory {
-            owner,
-            group,
-            execute: execute_of(mode),
+            owner: description.owner,
+            group: description.group,
+            execute: execute_of(description.mode),
         };
-        if self.path.push(directory) {
-            Ok(None)
-        } else {
-            self.refuse(Wrong::TooDeep)
-        }
+        self.path.push(directory)?;
+        Ok(None)
     }
 }
 
@@ -151,12 +150,12 @@ mod tests {
     use std::test::Fail;
 
     // What became of a line, in a word.
-    fn outcome(read: Result<Option<Asked>, Wrong>) -> &'static str {
+    fn outcome(read: Result<Option<Asker>, Wrong>) -> &'static str {
         match read {
             Ok(None) => "directory",
             Ok(Some(_)) => "subject",
             Err(Wrong::Line(_)) => "bad line",
-            Err(Wrong::TooDeep) => "too deep",
+            Err(Wrong::TooDeep(_)) => "too deep",
             Err(Wrong::PathEnded) => "path ended",
         }
     }

@@ -2,50 +2,46 @@
 #![tactic(auto)]
 
 ghost use Rattle.std.specs.Prelude.{◌≡◌};
-ghost use Rattle.flatten.specs.Newline.{without_newline};
+ghost use Rattle.std.specs.Io.Iter.{split_byte, split_known_bytes};
 
 mod job;
 mod records;
 mod report;
 
-use anyhow::anyhow;
+use anyhow::bail;
 use job::Job;
 use records::Records;
 use report::{print_answer, print_records};
-use std::io::{BufRead, BufReader};
+use rights::subject::Subject;
+use std::alloc::Global;
+use std::io::{BufRead, BufReader, Split};
 
-// A line without its newline.
-fn trimmed(line: &[u8]) -> &[u8]
-    ensures { result.now ≡ without_newline line.now }
+// The lines of the input, each without the newline that ends it.
+fn lines<R: BufRead>(input: R, heap: Global) -> Split<R>
+    ensures end { split_byte result ≡ 10 }
+    ensures bytes { split_known_bytes R.remaining result ≡ R.remaining input }
 {
-    match line {
-        [text @ .., b'\n'] => text,
-        _ => line,
-    }
+    input.split(heap, b'\n')
 }
 
 fn main(rt: HostRuntime) -> anyhow::Result<()> {
-    let mut input = BufReader::new(rt.alloc(), rt.stdin())?;
+    let input = BufReader::new(rt.alloc(), rt.stdin())?;
     let mut job = Job::new();
     let mut records: Option<Records> = None;
-    for number in 1..u64::MAX {
-        let mut line = Vec::new(rt.alloc());
-        if input.read_until(b'\n', &mut line)? == 0 {
-            break;
-        }
-        let read = job.read(trimmed(line.as_slice()));
+    for (number, line) in (1u64..).zip(lines(input, rt.alloc())) {
+        let read = job.read(line?.as_slice());
         if job.is_over() && records.is_none() {
             records = Some(print_records(&rt, job.path())?);
         }
         match (read, &records) {
-            (Ok(Some(asked)), Some(records)) => {
-                let admitted = records.admits(&asked.subject());
+            (Ok(Some(asker)), Some(records)) => {
+                let admitted = records.admits(&Subject::from(&asker));
                 print_answer(&rt, admitted)?
             }
             (Ok(_), _) => {}
             (Err(wrong), _) => {
                 eprintln!(rt; "line {number}: {wrong}")?;
-                return Err(anyhow!("the input is not an inquiry"));
+                bail!("the input is not an inquiry");
             }
         }
     }

@@ -3,7 +3,6 @@ ghost use Rattle.std.specs.Prelude.{◌≡◌, IfOk, Ok};
 ghost use Rattle.flatten.specs.Joined.{records_of, Exact};
 
 use crate::records::{Records, flattened};
-use anyhow::anyhow;
 use conjunctive::record::Conjunctive;
 use disjunctive::record::Disjunctive;
 use rights::directory::Directory;
@@ -43,9 +42,7 @@ pub fn print_records(rt: &HostRuntime, path: &[Directory]) -> anyhow::Result<Rec
     ensures records { IfOk result (λ rs. Ok rs ≡ records_of path.now) }
     ensures exact { IfOk result (λ rs. Exact rs path.now) }
 {
-    let Ok(records) = flattened(path) else {
-        return Err(anyhow!("a path has at most 16 directories"));
-    };
+    let records = flattened(path)?;
     print_clauses(rt, &records.conjunctive)?;
     print_lines(rt, &records.disjunctive)?;
     Ok(records)

@@ -1,5 +1,4 @@
-pub mod Bit
 pub mod Every
-pub mod Words
+pub mod Bits
 pub mod Bytes
 pub mod Sets

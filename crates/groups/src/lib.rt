@@ -27,24 +27,14 @@ pub fn insert(set: &mut GroupSet, group: u8)
 pub fn is_subset(a: &GroupSet, b: &GroupSet) -> bool
     ensures { result ≡ subset a.now b.now }
 {
-    for i in 0..32 {
-        if a[i] & b[i] != a[i] {
-            return false;
-        }
-    }
-    true
+    a.iter().zip(b).all(|(x, y)| x & y == *x)
 }
 
 // Whether no group is in both sets.
 pub fn is_disjoint(a: &GroupSet, b: &GroupSet) -> bool
     ensures { result ≡ disjoint a.now b.now }
 {
-    for i in 0..32 {
-        if a[i] & b[i] != 0 {
-            return false;
-        }
-    }
-    true
+    a.iter().zip(b).all(|(x, y)| x & y == 0)
 }
 
 #[cfg(test)]

@@ -1,5 +1,5 @@
 -- What each line says.
-use Rattle.std.specs.Prelude.{ℕ, Bool, cond, List, [], ◌∷◌, replicate, Some, None, Ok, Err, codes, Option, Result}
+use Rattle.std.specs.Prelude.{ℕ, Bool, cond, List, [], ◌∷◌, replicate, Some, None, Ok, Err, codes, Option, Result, option_and_then}
 use Rattle.std.specs.Str.{bytes_eq}
 use Rattle.groups.specs.Groups.{inserted}
 use Rattle.inquiry.specs.declared.line.Line.{Line}
@@ -19,19 +19,19 @@ abbrev pub directory_of : List ℕ → List ℕ → List ℕ → Result Line Bad
 directory_of owner group mode =
     with_value (number_of 10 65535 owner) Owner (λ o.
     with_value (number_of 10 255 group) Group (λ g.
-    with_value (number_of 8 4095 mode) Mode (λ m. Ok (Directory o g m))))
+    with_value (number_of 8 4095 mode) Mode (λ m. Ok (Directory (record { owner = o; group = g; mode = m })))))
 
 -- the set, with the group of each field put in
 abbrev pub with_groups : List ℕ → List (List ℕ) → Option (List ℕ)
 with_groups set [] = Some set
 with_groups set (field ∷ left) =
-    elim (number_of 10 255 field) [ None ↦ None | Some group ↦ with_groups (inserted set group) left ]
+    option_and_then (λ group. with_groups (inserted set group) left) (number_of 10 255 field)
 
 -- the subject that a field for the user and fields for its groups describe
 abbrev pub subject_of : List ℕ → List (List ℕ) → Result Line BadLine
 subject_of user groups =
     with_value (number_of 10 65535 user) User (λ u.
-    with_value (with_groups (replicate 32 0) groups) Groups (λ gs. Ok (Subject u gs)))
+    with_value (with_groups (replicate 32 0) groups) Groups (λ gs. Ok (Subject (record { user = u; groups = gs }))))
 
 -- whether a field is the word that begins a subject's line
 abbrev pub is_who : List ℕ → Bool

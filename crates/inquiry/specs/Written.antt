@@ -1,6 +1,7 @@
 -- How a directory is written: its owner and group in decimal, its mode in octal.
 use Rattle.std.specs.Prelude.{◌≡◌, ℕ, ◌+◌, ◌≤◌, cond, List, [], ◌∷◌, ◌++◌, map, Ok, Result, ◌==◌}
 use Rattle.std.specs.Int.Digits.{digits_of}
+use Rattle.inquiry.specs.declared.line.Description.{Description}
 use Rattle.inquiry.specs.declared.line.Line.{Line}
 use Rattle.inquiry.specs.declared.line.Line.TheVariants.{Directory}
 use Rattle.inquiry.specs.declared.line.BadLine.{BadLine}
@@ -18,11 +19,11 @@ abbrev pub written : ℕ → ℕ → List ℕ
 written base n = bytes (digits base n)
 
 -- the line of a directory
-abbrev pub directory_text : ℕ → ℕ → ℕ → List ℕ
-directory_text owner group mode = written 10 owner ++ (32 ∷ (written 10 group ++ (32 ∷ written 8 mode)))
+abbrev pub directory_text : Description → List ℕ
+directory_text d = written 10 d.owner ++ (32 ∷ (written 10 d.group ++ (32 ∷ written 8 d.mode)))
 
 -- of the line of a directory, that directory is read
 unfoldable pub ReadsBack : List ℕ → Result Line BadLine → Type 0
 ReadsBack text read =
-    (owner group mode : ℕ) → owner ≤ 65535 → group ≤ 255 → mode ≤ 4095
-    → text ≡ directory_text owner group mode → read ≡ Ok (Directory owner group mode)
+    (d : Description) → d.owner ≤ 65535 → d.group ≤ 255 → d.mode ≤ 4095
+    → text ≡ directory_text d → read ≡ Ok (Directory d)

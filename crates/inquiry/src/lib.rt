@@ -1,38 +1,17 @@
 // Reads one line of an inquiry: a directory of the path, or the subject that asks.
 #![tactic(auto)]
 
-ghost use Rattle.std.specs.Prelude.{◌≡◌, ◌∷◌, replicate, Err, MatchOption};
-ghost use Rattle.inquiry.specs.Fields.{field_if, fields, fields_if};
+ghost use Rattle.std.specs.Prelude.{◌≡◌, replicate};
+ghost use Rattle.inquiry.specs.Fields.{fields, fields_if};
 ghost use Rattle.inquiry.specs.Lines.{directory_of, is_who, line_of, subject_of, with_groups};
 ghost use Rattle.inquiry.specs.Written.{ReadsBack};
 
-mod field;
 mod line;
 mod number;
 
-use field::cut;
 use groups::{GroupSet, NO_GROUPS, insert};
-pub use line::{BadLine, Line};
+pub use line::{Asker, BadLine, Description, Line};
 use number::number;
-
-// The fields of a line: two, and perhaps a third.
-type Fields<'a> = (&'a [u8], &'a [u8], Option<&'a [u8]>);
-
-// Takes the line apart at its spaces; none where it has another number of fields.
-fn split(text: &[u8]) -> Option<Fields<'_>>
-    ensures { MatchOption result (line_of text.now ≡ Err BadLine.Shape) (λ f. fields 32 text.now ≡ f.0.now ∷ f.1.now ∷ field_if f.2) }
-{
-    let (first, Some(rest)) = cut(text, b' ') else {
-        return None;
-    };
-    match cut(rest, b' ') {
-        (second, None) => Some((first, second, None)),
-        (second, Some(rest)) => match cut(rest, b' ') {
-            (third, None) => Some((first, second, Some(third))),
-            (_, Some(_)) => None,
-        },
-    }
-}
 
 // The directory that the three fields describe.
 fn directory(owner: &[u8], group: &[u8], mode: &[u8]) -> Result<Line, BadLine>
@@ -41,19 +20,16 @@ fn directory(owner: &[u8], group: &[u8], mode: &[u8]) -> Result<Line, BadLine>
     let owner = number(owner, 10, 65535).ok_or(BadLine::Owner)?;
     let group = number(group, 10, 255).ok_or(BadLine::Group)? as u8;
     let mode = number(mode, 8, 0o7777).ok_or(BadLine::Mode)?;
-    Ok(Line::Directory { owner, group, mode })
+    Ok(Line::Directory(Description { owner, group, mode }))
 }
 
 // The set of the groups that are named with commas between, if each is one.
-fn group_set(list: Option<&[u8]>) -> Option<GroupSet>
-    ensures { result ≡ with_groups (replicate 32 0) (fields_if 44 list.entry) }
+fn group_set(list: &[u8]) -> Option<GroupSet>
+    ensures { result ≡ with_groups (replicate 32 0) (fields 44 list.now) }
 {
     let mut set = NO_GROUPS;
-    let mut left = list;
-    while let Some(text) = left {
-        let (first, rest) = cut(text, b',');
-        insert(&mut set, number(first, 10, 255)? as u8);
-        left = rest;
+    for field in list.split(|byte| *byte == b',') {
+        insert(&mut set, number(field, 10, 255)? as u8);
     }
     Some(set)
 }
@@ -63,8 +39,10 @@ fn subject(user: &[u8], groups: Option<&[u8]>) -> Result<Line, BadLine>
     ensures { result ≡ subject_of user.now (fields_if 44 groups.entry) }
 {
     let user = number(user, 10, 65535).ok_or(BadLine::User)?;
-    let groups = group_set(groups).ok_or(BadLine::Groups)?;
-    Ok(Line::Subject { user, groups })
+    let groups = groups
+        .map_or(Some(NO_GROUPS), group_set)
+        .ok_or(BadLine::Groups)?;
+    Ok(Line::Subject(Asker { user, groups }))
 }
 
 // Whether the field is the word that begins a subject's line.
@@ -79,15 +57,11 @@ pub fn read_line(text: &[u8]) -> Result<Line, BadLine>
     ensures line { result ≡ line_of text.now }
     ensures written { ReadsBack text.now result }
 {
-    let Some((first, second, third)) = split(text) else {
-        return Err(BadLine::Shape);
-    };
-    if is_who(first) {
-        return subject(second, third);
-    }
-    match third {
-        Some(mode) => directory(first, second, mode),
-        None => Err(BadLine::Shape),
+    let mut fields = text.split(|byte| *byte == b' ');
+    match (fields.next(), fields.next(), fields.next(), fields.next()) {
+        (Some(first), Some(user), groups, None) if is_who(first) => subject(user, groups),
+        (Some(owner), Some(group), Some(mode), None) => directory(owner, group, mode),
+        _ => Err(BadLine::Shape),
     }
 }
 
@@ -96,7 +70,7 @@ mod tests {
     use super::*;
 
     fn directory(owner: u16, group: u8, mode: u16) -> Result<Line, BadLine> {
-        Ok(Line::Directory { owner, group, mode })
+        Ok(Line::Directory(Description { owner, group, mode }))
     }
 
     #[test]
@@ -107,13 +81,13 @@ mod tests {
         assert_eq!(rt; read_line(b"01000 007 0000700"), directory(1000, 7, 0o700));
         assert_eq!(rt;
             read_line(b"who 1000"),
-            Ok(Line::Subject { user: 1000, groups })
+            Ok(Line::Subject(Asker { user: 1000, groups }))
         );
         insert(&mut groups, 27);
         insert(&mut groups, 100);
         assert_eq!(rt;
             read_line(b"who 7 100,27,100"),
-            Ok(Line::Subject { user: 7, groups })
+            Ok(Line::Subject(Asker { user: 7, groups }))
         );
     }
 

@@ -1,12 +1,44 @@
 // What a line says, and what can be wrong with one.
+ghost use Rattle.std.specs.Prelude.{◌≡◌};
+ghost use Rattle.rights.specs.Subjects.{who_of};
+ghost use Rattle.inquiry.specs.Asking.{asker};
+
 use groups::GroupSet;
+use rights::subject::Subject;
+use std::error::Error;
 use std::fmt;
+
+// A directory as its line describes it.
+#[derive(Clone, Copy, PartialEq, Eq, Debug)]
+pub struct Description {
+    pub owner: u16,
+    pub group: u8,
+    pub mode: u16,
+}
+
+// The subject that asks, as its line names it.
+#[derive(Clone, Copy, PartialEq, Eq, Debug)]
+pub struct Asker {
+    pub user: u16,
+    pub groups: GroupSet,
+}
+
+impl<'a> From<&'a Asker> for Subject<'a> {
+    ghost from_gives = { λ asked s. who_of s ≡ asker asked.now };
+
+    fn from(asker: &'a Asker) -> Subject<'a> {
+        Subject {
+            user: asker.user,
+            groups: &asker.groups,
+        }
+    }
+}
 
 // A directory of the path, or the subject that asks.
 #[derive(Clone, Copy, PartialEq, Eq, Debug)]
 pub enum Line {
-    Directory { owner: u16, group: u8, mode: u16 },
-    Subject { user: u16, groups: GroupSet },
+    Directory(Description),
+    Subject(Asker),
 }
 
 // The part of a line that is wrong.
@@ -33,3 +65,5 @@ impl fmt::Display for BadLine {
         f.write_str(wrong)
     }
 }
+
+impl Error for BadLine {}

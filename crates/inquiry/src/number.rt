@@ -1,4 +1,4 @@
-// Numbers as they are written: digits of a base, and nothing else.
+// Numbers as they are written: digits of a base, and nothing else, so no sign, which the library's parsing takes.
 ghost use Rattle.std.specs.Prelude.{◌≡◌, ◌≤◌, IfSome};
 ghost use Rattle.inquiry.specs.Numbers.{number_of};
 
@@ -12,11 +12,9 @@ pub fn number(text: &[u8], base: u8, largest: u16) -> Option<u16>
     }
     let mut value: u32 = 0;
     for byte in text {
-        if *byte < b'0' || *byte - b'0' >= base {
-            return None;
-        }
-        value = value * base as u32 + (*byte - b'0') as u32;
-        if value > largest as u32 {
+        let digit = byte.checked_sub(b'0').filter(|digit| *digit < base)?;
+        value = value * u32::from(base) + u32::from(digit);
+        if value > u32::from(largest) {
             return None;
         }
     }

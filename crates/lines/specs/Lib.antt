@@ -1,3 +1,4 @@
 pub mod Lines
 pub mod Moves
+pub mod Sameness
 pub mod Steps

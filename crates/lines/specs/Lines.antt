@@ -3,7 +3,8 @@ use Rattle.std.specs.Prelude.{ℕ, Bool, true, false, not, ◌&&◌, List, [], �
 use Rattle.groups.specs.Groups.{subset, disjoint}
 use Rattle.rights.specs.Subjects.{Who}
 use Rattle.bounded.specs.Lists.{listed}
-use Rattle.bounded.specs.Tests.{all_of, any_of, same_lists}
+use Rattle.std.specs.List.{list_all, list_any}
+use Rattle.std.specs.Cmp.Lexicographic.{pointwise}
 use Rattle.lines.specs.declared.line.Line.{Line}
 use Rattle.lines.specs.declared.line.UserLine.{UserLine}
 use Rattle.lines.specs.declared.line.OpenLine.{OpenLine}
@@ -14,10 +15,10 @@ line_admits l w = subset l.wanted w.groups && disjoint l.barred w.groups
 
 -- a user line is for its user alone
 abbrev pub lines_admit : List UserLine → Who → Bool
-lines_admit ls w = any_of (λ l. (l.user == w.user) && line_admits l.line w) ls
+lines_admit ls w = list_any (λ l. (l.user == w.user) && line_admits l.line w) ls
 
 abbrev pub has : List ℕ → ℕ → Bool
-has us u = any_of (λ v. nat_eq v u) us
+has us u = list_any (λ v. nat_eq v u) us
 
 abbrev pub shut_out : OpenLine → ℕ → Bool
 shut_out o u = has (listed o.shut) u
@@ -48,7 +49,7 @@ users (l ∷ ls) = l.user ∷ users ls
 abbrev pub open_tidy : ℕ → List UserLine → Option OpenLine → Bool
 open_tidy level ls None = true
 open_tidy level ls (Some o) =
-    nat_le (length (listed o.shut)) level && (rising (listed o.shut) && all_of (λ l. within l.line o.line && not (shut_out o l.user)) ls)
+    nat_le (length (listed o.shut)) level && (rising (listed o.shut) && list_all (λ l. within l.line o.line && not (shut_out o l.user)) ls)
 
 -- no more user lines than levels, in rising order of user
 abbrev pub tidy : ℕ → List UserLine → Option OpenLine → Bool
@@ -67,7 +68,7 @@ abbrev pub same_open : Option OpenLine → Option OpenLine → Bool
 same_open None None = true
 same_open None (Some p) = false
 same_open (Some o) None = false
-same_open (Some o) (Some p) = same_sets o.line p.line && same_lists nat_eq (listed o.shut) (listed p.shut)
+same_open (Some o) (Some p) = same_sets o.line p.line && pointwise nat_eq (listed o.shut) (listed p.shut)
 
 -- the same user and the same sets
 abbrev pub same_line : UserLine → UserLine → Bool

@@ -3,7 +3,7 @@ use Rattle.std.specs.Prelude.{ℕ, Bool, true, false, cond, not, ◌&&◌, List,
 use Rattle.std.proofs.Common.{◌∙◌, length-set}
 use Rattle.groups.specs.Groups.{inserted, disjoint}
 use Rattle.rights.specs.declared.directory.Directory.{Directory}
-use Rattle.bounded.specs.Lists.{listed, packed}
+use Rattle.bounded.specs.Lists.{holding, listed}
 use Rattle.bounded.specs.Places.{placed}
 use Rattle.lines.specs.declared.line.Line.{Line}
 use Rattle.lines.specs.declared.line.UserLine.{UserLine}
@@ -59,7 +59,7 @@ move_2 d (Some o) ls =
 
 -- the open line with these sets, and one user more shut out
 abbrev pub shut_with : ℕ → OpenLine → Line → OpenLine
-shut_with u o l = record { line = l; shut = packed 16 o.shut.filler (placed (λ v. v) u (listed o.shut)) }
+shut_with u o l = record { line = l; shut = holding o.shut (placed (λ v. v) u (listed o.shut)) }
 
 -- the open line with what is left of its sets, by the owner bit
 abbrev pub reopened : Bool → ℕ → OpenLine → Option Line → Option OpenLine

@@ -6,7 +6,7 @@ ghost use Rattle.lines.specs.Moves.{shut_with, covered, move_3, open_after};
 ghost use Rattle.lines.specs.Steps.{Stays};
 
 use crate::line::{OpenLine, UserLine};
-use bounded::keyed::{has_key, place};
+use bounded::keyed::has_key;
 use rights::directory::Directory;
 use rights::subject::Subject;
 
@@ -34,7 +34,7 @@ impl OpenLine {
     pub fn shut_out(&mut self, user: u16)
         ensures { self.new ≡ shut_with user self.old self.old.line }
     {
-        place(&mut self.shut, user);
+        self.shut.place(user);
     }
 
     // Move 3; says whether the line stays.
@@ -51,15 +51,15 @@ impl OpenLine {
     }
 }
 
-// The open line, if any, after moves 3 and 4.
-pub fn reopened(others: Option<OpenLine>, directory: &Directory) -> Option<OpenLine>
-    ensures { result ≡ open_after directory.now others }
+// Moves 3 and 4 on the open line, if there is one.
+pub fn reopen(others: &mut Option<OpenLine>, directory: &Directory)
+    ensures { others.new ≡ open_after directory.now others.old }
 {
-    let mut open = others?;
-    if open.treat(directory) && open.line.is_consistent() {
-        Some(open)
-    } else {
-        None
+    if let Some(open) = others {
+        let stays = open.treat(directory) && open.line.is_consistent();
+        if !stays {
+            *others = None;
+        }
     }
 }
 
@@ -67,8 +67,5 @@ pub fn reopened(others: Option<OpenLine>, directory: &Directory) -> Option<OpenL
 pub fn covered(others: &Option<OpenLine>, line: &UserLine) -> bool
     ensures { result ≡ covered others.now line.now }
 {
-    match others {
-        Some(open) => open.covers(line),
-        None => false,
-    }
+    others.as_ref().is_some_and(|open| open.covers(line))
 }

@@ -1,20 +1,19 @@
 // The table of user lines, in rising order of user, at most one for a user.
 ghost use Rattle.std.specs.Prelude.{◌≡◌, not, ◌&&◌, [], ◌∷◌, if◌then◌else◌};
 ghost use Rattle.rights.specs.Subjects.{who_of};
-ghost use Rattle.bounded.specs.Lists.{listed, packed};
+ghost use Rattle.bounded.specs.Lists.{holding, listed};
 ghost use Rattle.bounded.specs.Places.{placed};
 ghost use Rattle.lines.specs.Lines.{lines_admit, has, shut_out, users};
-ghost use Rattle.lines.specs.Moves.{consistent, covered, move_1, move_2, move_4};
+ghost use Rattle.lines.specs.Moves.{move_1, move_2, move_4};
 
 use crate::line::{OpenLine, UserLine};
 use crate::others::covered;
-use bounded::keep::{Test, retain};
-use bounded::keyed::{Keyed, has_key, place};
+use bounded::keyed::{Keyed, has_key};
 use bounded::list::Bounded;
 use rights::directory::Directory;
 use rights::subject::Subject;
 
-#[derive(Clone, Copy)]
+#[derive(Clone, Copy, PartialEq)]
 pub struct Lines {
     pub table: Bounded<UserLine, 16>,
 }
@@ -41,31 +40,13 @@ impl UserLine {
     }
 }
 
-// The lines that move 4 keeps: they do not both want and bar one group, and the open line does not cover them.
-#[derive(Clone, Copy)]
-struct Settled<'a> {
-    others: &'a Option<OpenLine>,
-}
-
-impl Test<UserLine> for Settled<'_> {
-    ghost passes = { λ s l. consistent l.line && not (covered s.others.now l) };
-
-    fn passes(&self, line: &UserLine) -> bool {
-        line.line.is_consistent() && !covered(self.others, line)
-    }
-}
-
 impl Lines {
     // Whether some line admits the subject.
     pub fn admits(&self, subject: &Subject<'_>) -> bool
         ensures { result ≡ lines_admit (listed self.now.table) (who_of subject.now) }
     {
-        for line in self.table.as_slice() {
-            if line.admits(subject) {
-                return true;
-            }
-        }
-        false
+        let lines = self.table.as_slice();
+        lines.iter().any(|line| line.admits(subject))
     }
 
     // Whether the user has a line.
@@ -77,25 +58,16 @@ impl Lines {
 
     // Puts the line in its user's place.
     pub fn place(&mut self, line: UserLine)
-        ensures { self.new.table ≡ packed 16 self.old.table.filler (placed (λ l. l.user) line (listed self.old.table)) }
+        ensures { self.new.table ≡ holding self.old.table (placed (λ l. l.user) line (listed self.old.table)) }
     {
-        place(&mut self.table, line);
+        self.table.place(line);
     }
 
     // Move 1: each line is lent to be treated, and stays or goes.
     pub fn treat(&mut self, directory: &Directory)
-        ensures { self.new.table ≡ packed 16 self.old.table.filler (move_1 directory.now (listed self.old.table)) }
+        ensures { self.new.table ≡ holding self.old.table (move_1 directory.now (listed self.old.table)) }
     {
-        let count = self.table.count;
-        let mut out = Bounded::new(self.table.filler);
-        let items = &mut self.table.items;
-        for i in 0..count {
-            let line = &mut items[i];
-            if line.treat(directory) {
-                let _ = out.push(*line);
-            }
-        }
-        self.table = out;
+        self.table.retain_mut(|line| line.treat(directory));
     }
 
     // Whether the owner bit is 1, and the owner is not shut out and has no line.
@@ -107,7 +79,7 @@ impl Lines {
 
     // Move 2: such an owner gets a line with the open line's sets.
     pub fn grant(&mut self, directory: &Directory, others: &Option<OpenLine>)
-        ensures { self.new.table ≡ packed 16 self.old.table.filler (move_2 directory.now others.now (listed self.old.table)) }
+        ensures { self.new.table ≡ holding self.old.table (move_2 directory.now others.now (listed self.old.table)) }
     {
         if let Some(open) = others {
             if self.lacks_owner(directory, open) {
@@ -119,10 +91,11 @@ impl Lines {
         }
     }
 
-    // Move 4 on the user lines.
+    // Move 4 on the user lines: those stay that do not want and bar one group, and that the open line does not cover.
     pub fn settle(&mut self, others: &Option<OpenLine>)
-        ensures { self.new.table ≡ packed 16 self.old.table.filler (move_4 others.now (listed self.old.table)) }
+        ensures { self.new.table ≡ holding self.old.table (move_4 others.now (listed self.old.table)) }
     {
-        retain(&mut self.table, &Settled { others });
+        self.table
+            .retain(|line| line.line.is_consistent() && !covered(others, line));
     }
 }

@@ -5,7 +5,7 @@ ghost use Rattle.rights.specs.Classes.{execute_of};
 use crate::class::Class;
 
 // A bit for each class.
-#[derive(Clone, Copy)]
+#[derive(Clone, Copy, PartialEq, Eq, Debug)]
 pub struct Execute {
     pub owner: bool,
     pub group: bool,

@@ -1,14 +1,26 @@
 // A form: a flattened requirement, that is, the search rights of all directories of a path in one record.
-ghost use Rattle.std.specs.Prelude.{◌≡◌, ltb, is_ok, if◌then◌else◌, nat_lt};
+ghost use Rattle.std.specs.Prelude.{◌≡◌, ltb, Some, codes, is_ok, if◌then◌else◌, nat_lt};
 ghost use Rattle.rights.specs.Subjects.{who_of};
 ghost use Rattle.rights.specs.Meaning.{Meaning, Lawful};
 
 use crate::directory::Directory;
 use crate::subject::Subject;
+use std::error::Error;
+use std::fmt;
 
 // The refusal to narrow a requirement that has 16 levels.
-#[derive(Clone, Copy, Debug)]
+#[derive(Clone, Copy, PartialEq, Eq, Debug)]
 pub struct TooDeep;
+
+impl fmt::Display for TooDeep {
+    ghost output = { λ _. Some (codes "a path has at most 16 directories") };
+
+    fn fmt<W: fmt::Write>(&self, f: &mut fmt::Formatter<W>) -> fmt::Result {
+        f.write_str("a path has at most 16 directories")
+    }
+}
+
+impl Error for TooDeep {}
 
 pub trait Form: Copy {
     ghost meaning: { Meaning Self };

@@ -6,9 +6,8 @@ use crate::execute::Execute;
 
 // A literal of a clause before its number is put in: positive is "user is u" or "in g",
 // negative "user is not u" or "not in g".
-#[derive(Clone, Copy)]
+#[derive(Clone, Copy, PartialEq, Eq, Debug)]
 pub enum Sign {
-    Absent,
     Positive,
     Negative,
 }
@@ -16,55 +15,55 @@ pub enum Sign {
 // A clause of a pattern: it holds where one of its literals does.
 #[derive(Clone, Copy)]
 pub struct Shape {
-    pub user: Sign,
-    pub group: Sign,
+    pub user: Option<Sign>,
+    pub group: Option<Sign>,
 }
 
 const EMPTY: Shape = Shape {
-    user: Sign::Absent,
-    group: Sign::Absent,
+    user: None,
+    group: None,
 };
 
 const NOT_OWNER: Shape = Shape {
-    user: Sign::Negative,
-    group: Sign::Absent,
+    user: Some(Sign::Negative),
+    group: None,
 };
 
 const OWNER: Shape = Shape {
-    user: Sign::Positive,
-    group: Sign::Absent,
+    user: Some(Sign::Positive),
+    group: None,
 };
 
 const OWNER_OR_MEMBER: Shape = Shape {
-    user: Sign::Positive,
-    group: Sign::Positive,
+    user: Some(Sign::Positive),
+    group: Some(Sign::Positive),
 };
 
 const OWNER_OR_NOT_MEMBER: Shape = Shape {
-    user: Sign::Positive,
-    group: Sign::Negative,
+    user: Some(Sign::Positive),
+    group: Some(Sign::Negative),
 };
 
 const MEMBER: Shape = Shape {
-    user: Sign::Absent,
-    group: Sign::Positive,
+    user: None,
+    group: Some(Sign::Positive),
 };
 
 const NOT_MEMBER: Shape = Shape {
-    user: Sign::Absent,
-    group: Sign::Negative,
+    user: None,
+    group: Some(Sign::Negative),
 };
 
 // By the bits of owner, group and others, from 000 to 111.
-const CLAUSES: [[Option<Shape>; 2]; 8] = [
-    [Some(EMPTY), None],
-    [Some(NOT_OWNER), Some(NOT_MEMBER)],
-    [Some(NOT_OWNER), Some(MEMBER)],
-    [Some(NOT_OWNER), None],
-    [Some(OWNER), None],
-    [Some(OWNER_OR_NOT_MEMBER), None],
-    [Some(OWNER_OR_MEMBER), None],
-    [None, None],
+const CLAUSES: [&[Shape]; 8] = [
+    &[EMPTY],
+    &[NOT_OWNER, NOT_MEMBER],
+    &[NOT_OWNER, MEMBER],
+    &[NOT_OWNER],
+    &[OWNER],
+    &[OWNER_OR_NOT_MEMBER],
+    &[OWNER_OR_MEMBER],
+    &[],
 ];
 
 impl Execute {
@@ -73,13 +72,13 @@ impl Execute {
         ensures value { result ≡ place self }
         ensures low { result < 8 }
     {
-        4 * self.owner as usize + 2 * self.group as usize + self.others as usize
+        4 * usize::from(self.owner) + 2 * usize::from(self.group) + usize::from(self.others)
     }
 
     // The clauses of the pattern, in order.
-    pub fn clauses(self) -> [Option<Shape>; 2]
-        ensures row { result ≡ slice_index_or rows (place self) [] }
-        ensures agrees { Agrees self result }
+    pub fn clauses(self) -> &'static [Shape]
+        ensures row { result.now ≡ slice_index_or rows (place self) [] }
+        ensures agrees { Agrees self result.now }
     {
         CLAUSES[self.place()]
     }

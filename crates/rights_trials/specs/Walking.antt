@@ -1,8 +1,8 @@
 -- A trail keeps the laws of a form.
-use Rattle.std.specs.Prelude.{◌≡◌, ℕ, ◌+◌, ◌<◌, ◌≤◌, ◌&&◌, List, [], ◌∷◌, ◌++◌, length, drop, slice_index_or, refl}
+use Rattle.std.specs.Prelude.{◌≡◌, ◌<◌, ◌≤◌, ◌&&◌, List, [], ◌∷◌, ◌++◌, length, refl}
 use Rattle.std.proofs.Common.{sym, ap, ◌∙◌, arith}
 use Rattle.std.proofs.Math.Bool.{and-true, and_assoc}
-use Rattle.std.proofs.lemmas.List.{at_drop_more, length_push}
+use Rattle.std.proofs.lemmas.List.{length_push}
 use Rattle.std.proofs.lemmas.Bool.{false≢true}
 use Rattle.rights.specs.contracts.directory.Directory.{the_row}
 use Rattle.rights.specs.declared.directory.Directory.{Directory}
@@ -12,9 +12,6 @@ use Rattle.rights.specs.Paths.{may_all}
 use Rattle.bounded.proofs.Packing.{packed_listed, length_listed}
 use Rattle.rights_trials.specs.declared.trail.Trail.{Trail}
 use Rattle.rights_trials.specs.Trails.{directories, trails}
-
-pub may_more : (w : Who) (ds : List Directory) (i : ℕ) (d : Directory) → i < length ds → d ≡ slice_index_or ds i d → may_all w (drop i ds) ≡ (may w d && may_all w (drop (i + 1) ds))
-may_more w ds i d within is = at_drop_more (may_all w) ds i d within ∙ ap (λ x. may w x && may_all w (drop (i + 1) ds)) (sym is)
 
 may_push : (w : Who) (ds : List Directory) (d : Directory) → may_all w (ds ++ (d ∷ [])) ≡ (may_all w ds && may w d)
 may_push w [] d = and-true (may w d)

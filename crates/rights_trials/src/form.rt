@@ -33,20 +33,12 @@ impl Form for Trail {
     }
 
     fn narrow(&mut self, directory: &Directory) -> Result<(), TooDeep> {
-        if self.path.push(*directory) {
-            Ok(())
-        } else {
-            Err(TooDeep)
-        }
+        self.path.push(*directory).map_err(|_| TooDeep)
     }
 
     fn admits(&self, subject: &Subject<'_>) -> bool {
-        for directory in self.path.as_slice() {
-            if !subject.may_search(directory) {
-                return false;
-            }
-        }
-        true
+        let path = self.path.as_slice();
+        path.iter().all(|directory| subject.may_search(directory))
     }
 
     fn same(&self, _other: &Trail) -> bool {

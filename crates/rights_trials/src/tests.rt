@@ -28,8 +28,8 @@ fn directory(bits: u8, owner: u16, group: u8) -> Directory {
 // Sixteen directories with the same bits, of owners and groups 1 to 16.
 fn sixteen(bits: u8) -> [Directory; 16] {
     let mut path = [directory(bits, 1, 1); 16];
-    for i in 0..16u8 {
-        path[i as usize] = directory(bits, i as u16 + 1, i + 1);
+    for (place, n) in path.iter_mut().zip(1..17u8) {
+        *place = directory(bits, n.into(), n);
     }
     path
 }
@@ -196,14 +196,14 @@ fn most_shut_out(rt: HostRuntime) -> Result<(), Fail> {
 fn drawn(seed: u32) -> [Directory; 16] {
     let mut path = [directory(7, 0, 0); 16];
     let mut state = seed;
-    for i in 0..16 {
+    for place in &mut path {
         state = state.wrapping_mul(1664525).wrapping_add(1013904223);
         let bits = (state >> 29) as u8;
         let owner = ((state >> 20) % 3) as u16;
         let group = ((state >> 10) % 3) as u8;
         // three of four directories let all but one class in, so that long paths admit some
         let open = if state % 8 < 6 { bits | 3 } else { bits };
-        path[i] = directory(open, owner, group);
+        *place = directory(open, owner, group);
     }
     path
 }

@@ -4,7 +4,7 @@ ghost use Rattle.shelves.specs.Slots.{Same, written};
 ghost use Rattle.shelves.specs.Bounds.{paired_proper};
 
 use crate::shelf::{MAX_SLOTS, Shelf};
-use crate::slot::{Slot, SlotRef};
+use crate::slot::{Node, Slot};
 
 #[derive(Drop)]
 pub struct Pair<L, R> {
@@ -23,14 +23,14 @@ impl<L: Shelf, R: Shelf<Form = L::Form>> Shelf for Pair<L, R> {
         (self.left.size() + self.right.size()).min(MAX_SLOTS)
     }
 
-    fn read(&self, n: usize) -> SlotRef<'_, L::Form> {
+    fn read(&self, n: usize) -> Option<&Node<L::Form>> {
         let split = self.left.size();
         if n < split {
             self.left.read(n)
         } else if n < MAX_SLOTS {
             self.right.read(n - split)
         } else {
-            SlotRef::Empty
+            None
         }
     }
 

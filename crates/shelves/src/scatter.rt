@@ -5,7 +5,7 @@ ghost use Rattle.shelves.specs.Slots.{Same, written};
 ghost use Rattle.shelves.specs.Bounds.{renumbered_proper};
 
 use crate::shelf::{MAX_SLOTS, Shelf};
-use crate::slot::{Slot, SlotRef};
+use crate::slot::{Node, Slot};
 
 #[derive(Drop)]
 pub struct Scatter<S> {
@@ -37,12 +37,12 @@ impl<S: Shelf> Shelf for Scatter<S> {
         self.below.size()
     }
 
-    fn read(&self, n: usize) -> SlotRef<'_, S::Form> {
+    fn read(&self, n: usize) -> Option<&Node<S::Form>> {
         let size = self.below.size();
         if n < size {
             self.below.read(place(size, n))
         } else {
-            SlotRef::Empty
+            None
         }
     }
 

@@ -1,8 +1,8 @@
 // A shelf: a list of at most 4,096 slots, whose size never changes.
-ghost use Rattle.shelves.specs.Slots.{Slots, Proper, Same, told, written};
-ghost use Rattle.std.specs.Prelude.{◌≡◌};
+ghost use Rattle.shelves.specs.Slots.{Slots, Proper, Same, written};
+ghost use Rattle.std.specs.Prelude.{◌≡◌, option_copied};
 
-use crate::slot::{Slot, SlotRef};
+use crate::slot::{Node, Slot};
 use rights::form::Form;
 
 // A shelf has no more slots than this, so a node number is below it.
@@ -21,10 +21,11 @@ pub trait Shelf {
         ensures { result ≡ (slots self.now).size };
 
     // Past the size it tells an empty slot.
-    fn read(&self, n: usize) -> SlotRef<'_, Self::Form>
-        ensures { told result ≡ (slots self.now).at n };
+    fn read(&self, n: usize) -> Option<&Node<Self::Form>>
+        ensures { option_copied result ≡ (slots self.now).at n };
 
     // Sets that slot and no other; past the size it has no effect.
+    // The slot is lent: by value, every shelf would have to repeat this clause.
     fn write(&mut self, n: usize, slot: &Slot<Self::Form>)
         ensures { Same (slots self.new) (written (slots self.old) n slot.now) };
 }

@@ -9,15 +9,5 @@ pub struct Node<F> {
     pub requirement: F,
 }
 
-#[derive(Clone, Copy)]
-pub enum Slot<F> {
-    Empty,
-    Used(Node<F>),
-}
-
-// What a read tells of a slot: the node is lent, not copied.
-#[derive(Clone, Copy)]
-pub enum SlotRef<'a, F> {
-    Empty,
-    Used(&'a Node<F>),
-}
+// A slot is empty, or has a node.
+pub type Slot<F> = Option<Node<F>>;

@@ -5,7 +5,7 @@ ghost use Rattle.shelves.specs.Layers.{tabled, placed};
 ghost use Rattle.shelves.specs.Slots.{Same, written};
 
 use crate::shelf::{MAX_SLOTS, Shelf};
-use crate::slot::{Slot, SlotRef};
+use crate::slot::{Node, Slot};
 use rights::form::Form;
 
 // The first 4,096 slots of the memory count. It is lent: the caller has it back when the table ends.
@@ -32,15 +32,6 @@ impl<'a, F> Table<'a, F> {
     }
 }
 
-// Sets one of the places that count, and no other.
-fn set_place<F: Copy>(memory: &mut [Slot<F>], n: usize, slot: &Slot<F>)
-    ensures { memory.new ≡ placed memory.old n slot.now }
-{
-    if n < MAX_SLOTS && n < memory.len() {
-        memory[n] = *slot;
-    }
-}
-
 impl<'a, F: Form> Shelf for Table<'a, F> {
     type Form = F;
 
@@ -52,16 +43,8 @@ impl<'a, F: Form> Shelf for Table<'a, F> {
         self.memory.len().min(MAX_SLOTS)
     }
 
-    fn read(&self, n: usize) -> SlotRef<'_, F> {
-        let memory = &*self.memory;
-        if n < MAX_SLOTS && n < memory.len() {
-            match &memory[n] {
-                Slot::Empty => SlotRef::Empty,
-                Slot::Used(node) => SlotRef::Used(node),
-            }
-        } else {
-            SlotRef::Empty
-        }
+    fn read(&self, n: usize) -> Option<&Node<F>> {
+        self.memory[..self.size()].get(n)?.as_ref()
     }
 
     fn write(&mut self, n: usize, slot: &Slot<F>)
@@ -69,6 +52,8 @@ impl<'a, F: Form> Shelf for Table<'a, F> {
         ensures memory { self.new.memory.now ≡ placed self.old.memory.now n slot.now }
         ensures lent { self.new.memory.ghost_name ≡ self.old.memory.ghost_name }
     {
-        set_place(self.memory, n, slot);
+        if n < self.size() {
+            self.memory[n] = *slot;
+        }
     }
 }

@@ -1,13 +1,13 @@
 // A pile of five layers, read and written as the trait says layer by layer: none of this needs a proof of its own.
-ghost use Rattle.std.specs.Prelude.{◌≡◌};
-ghost use Rattle.shelves.specs.Slots.{Same, told, written};
+ghost use Rattle.std.specs.Prelude.{◌≡◌, option_copied};
+ghost use Rattle.shelves.specs.Slots.{Same, written};
 ghost use Rattle.shelves_trials.specs.Piled.{piled};
 
 use rights::form::Form;
 use shelves::pair::Pair;
 use shelves::scatter::Scatter;
 use shelves::shelf::Shelf;
-use shelves::slot::{Slot, SlotRef};
+use shelves::slot::{Node, Slot};
 use shelves::table::Table;
 
 pub type Pile<'a, F> = Scatter<Pair<Table<'a, F>, Scatter<Pair<Table<'a, F>, Table<'a, F>>>>>;
@@ -33,8 +33,8 @@ pub fn pile_of<'a, F: Form>(
     }
 }
 
-pub fn read_pile<'p, F: Form>(pile: &'p Pile<'_, F>, n: usize) -> SlotRef<'p, F>
-    ensures { told result ≡ (piled pile.now).at n }
+pub fn read_pile<'p, F: Form>(pile: &'p Pile<'_, F>, n: usize) -> Option<&'p Node<F>>
+    ensures { option_copied result ≡ (piled pile.now).at n }
 {
     pile.read(n)
 }

@@ -3,7 +3,7 @@ ghost use Rattle.shelves.specs.Bounds.{renumbered_proper};
 ghost use Rattle.shelves_trials.specs.Reversed.{reversed};
 
 use shelves::shelf::Shelf;
-use shelves::slot::{Slot, SlotRef};
+use shelves::slot::{Node, Slot};
 
 #[derive(Drop)]
 pub struct Reversed<S> {
@@ -21,12 +21,12 @@ impl<S: Shelf> Shelf for Reversed<S> {
         self.below.size()
     }
 
-    fn read(&self, n: usize) -> SlotRef<'_, S::Form> {
+    fn read(&self, n: usize) -> Option<&Node<S::Form>> {
         let size = self.below.size();
         if n < size {
             self.below.read(size - 1 - n)
         } else {
-            SlotRef::Empty
+            None
         }
     }
 

@@ -8,18 +8,18 @@ use rights::execute::Execute;
 use rights::form::Form;
 use rights::mode::Mode;
 use shelves::entry::{Entry, Kind};
-use shelves::number::NodeNumber;
+use shelves::number::{NoSuchNode, NodeNumber};
 use shelves::pair::Pair;
 use shelves::scatter::Scatter;
 use shelves::shelf::Shelf;
-use shelves::slot::{Node, Slot, SlotRef};
+use shelves::slot::{Node, Slot};
 use shelves::table::Table;
 use std::alloc::{AllocError, Global};
 use std::process::Abort;
 use std::test::Fail;
 
 fn empty<F: Form + Clone>(heap: Global, size: usize) -> Result<Vec<Slot<F>>, AllocError> {
-    vec![in heap; Slot::Empty; size]
+    vec![in heap; None; size]
 }
 
 // A requirement of this level, at most 16.
@@ -47,10 +47,10 @@ fn node<F: Form>(n: usize) -> Option<Node<F>> {
         } else {
             Kind::File
         },
-        parent: NodeNumber::new((n / 2 % 4096) as u16)?,
+        parent: NodeNumber::try_from((n / 2 % 4096) as u16).ok()?,
         owner: (n % 65536) as u16,
         group: (n % 256) as u8,
-        mode: Mode::new((n % 512) as u16)?,
+        mode: Mode::try_from((n % 512) as u16).ok()?,
     };
     Some(Node {
         entry,
@@ -61,40 +61,25 @@ fn node<F: Form>(n: usize) -> Option<Node<F>> {
 
 fn is_node<F: Form>(told: &Node<F>, n: usize) -> bool {
     let entry = &told.entry;
-    entry.owner as usize == n
-        && entry.parent.index() == n / 2
-        && entry.group as usize == n % 256
-        && entry.mode.bits() as usize == n % 512
-        && matches!(entry.kind, Kind::Directory) == (n % 2 == 0)
+    usize::from(entry.owner) == n
+        && usize::from(entry.parent) == n / 2
+        && usize::from(entry.group) == n % 256
+        && usize::from(u16::from(entry.mode)) == n % 512
+        && (entry.kind == Kind::Directory) == (n % 2 == 0)
         && told.stale == (n % 3 == 0)
-        && told.requirement.level() as usize == n % 5
+        && usize::from(told.requirement.level()) == n % 5
 }
 
-fn is_empty<S: Shelf>(shelf: &S, n: usize) -> bool {
-    match shelf.read(n) {
-        SlotRef::Empty => true,
-        SlotRef::Used(_) => false,
-    }
-}
-
-fn is_filled<S: Shelf>(shelf: &S, n: usize) -> bool {
-    match shelf.read(n) {
-        SlotRef::Empty => false,
-        SlotRef::Used(told) => is_node(told, n),
-    }
-}
-
+// Fills the slot of this number with its node.
 fn fill<S: Shelf>(shelf: &mut S, n: usize) -> Result<(), Fail> {
-    let Some(node) = node(n) else {
-        return Err(Fail::new("no node has this number"));
-    };
-    shelf.write(n, &Slot::Used(node));
+    let node = node(n).ok_or_else(|| Fail::new("no node has this number"))?;
+    shelf.write(n, &Some(node));
     Ok(())
 }
 
 fn fill_all<S: Shelf>(rt: &impl Abort, shelf: &mut S) -> Result<(), Fail> {
     for n in 0..shelf.size() {
-        assert!(rt; is_empty(shelf, n));
+        assert!(rt; shelf.read(n).is_none());
         fill(shelf, n)?;
     }
     Ok(())
@@ -104,7 +89,7 @@ fn fill_all<S: Shelf>(rt: &impl Abort, shelf: &mut S) -> Result<(), Fail> {
 fn fill_past<S: Shelf>(rt: &impl Abort, shelf: &mut S, size: usize) -> Result<(), Fail> {
     for past in [size, 4096, 4097, 8192, usize::MAX] {
         fill(shelf, past)?;
-        assert!(rt; is_empty(shelf, past));
+        assert!(rt; shelf.read(past).is_none());
     }
     Ok(())
 }
@@ -112,8 +97,9 @@ fn fill_past<S: Shelf>(rt: &impl Abort, shelf: &mut S, size: usize) -> Result<()
 // Every slot holds its node, but for one that is empty; none is where that is past the size.
 fn all_filled_but<S: Shelf>(rt: &impl Abort, shelf: &S, emptied: usize) {
     for n in 0..shelf.size() {
-        assert_eq!(rt; is_filled(shelf, n), n != emptied);
-        assert_eq!(rt; is_empty(shelf, n), n == emptied);
+        let told = shelf.read(n);
+        assert_eq!(rt; told.is_some_and(|node| is_node(node, n)), n != emptied);
+        assert_eq!(rt; told.is_none(), n == emptied);
     }
 }
 
@@ -128,10 +114,7 @@ fn filled<S: Shelf>(rt: &impl Abort, shelf: &mut S, size: usize) -> Result<(), F
 
 // Whether a place of the memory holds the node of this number.
 fn holds<F: Form>(memory: &[Slot<F>], at: usize, n: usize) -> bool {
-    match memory.get(at) {
-        Some(Slot::Used(node)) => is_node(node, n),
-        _ => false,
-    }
+    matches!(memory.get(at), Some(Some(node)) if is_node(node, n))
 }
 
 // Memory of so many slots, and the size of a table over it.
@@ -256,14 +239,14 @@ fn paired_memory(rt: HostRuntime) -> Result<(), Fail> {
     assert!(rt; holds(&left[..], 3999, 3999));
     assert!(rt; holds(&right[..], 0, 4000));
     assert!(rt; holds(&right[..], 95, 4095));
-    assert!(rt; matches!(right.get(96), Some(Slot::Empty)));
+    assert!(rt; matches!(right.get(96), Some(None)));
     Ok(())
 }
 
 // A slot that is emptied is the only one that changes.
 fn emptied<S: Shelf>(rt: &impl Abort, shelf: &mut S, n: usize) -> Result<(), Fail> {
     fill_all(rt, shelf)?;
-    shelf.write(n, &Slot::Empty);
+    shelf.write(n, &None);
     all_filled_but(rt, shelf, n);
     Ok(())
 }
@@ -285,9 +268,8 @@ fn one_slot_emptied(rt: HostRuntime) -> Result<(), Fail> {
 #[test]
 fn node_numbers(rt: HostRuntime) {
     for (number, fits) in [(0, true), (4095, true), (4096, false), (65535, false)] {
-        match NodeNumber::new(number) {
-            Some(told) => assert!(rt; fits && told.index() == number as usize),
-            None => assert!(rt; !fits),
-        }
+        let told = NodeNumber::try_from(number).map(usize::from);
+        let wanted = fits.then_some(usize::from(number));
+        assert_eq!(rt; told, wanted.ok_or(NoSuchNode(number)));
     }
 }

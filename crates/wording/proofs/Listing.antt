@@ -1,10 +1,7 @@
 -- Numbers written one after another, with ", " between them.
-use Rattle.std.proofs.Common.{◌≡◌, ℕ, ◌+◌, Bool, true, false, cond, List, [], ◌∷◌, ◌++◌, Ok, codes, decimal, filter, refl, ap, ◌∙◌, append_assoc, append-nil, zero-add}
+use Rattle.std.proofs.Common.{◌≡◌, ℕ, Bool, true, false, cond, List, [], ◌∷◌, ◌++◌, Ok, codes, decimal, refl, ap, append_assoc, append-nil}
 use Rattle.std.specs.declared.fmt.Formatter.{Formatter}
-use Rattle.std.specs.List.{range_with_len}
 use Rattle.std.specs.Fmt.{IsPlainFormatter, HasWritten, WritesOnOk}
-use Rattle.std.proofs.lemmas.List.FromFn.{filter_of_map_range_with_len_more}
-use Rattle.std.proofs.lemmas.List.{map-id}
 use Rattle.std.proofs.Output.{has_written_append}
 use Rattle.wording.specs.Words.{more_words, number_words}
 
@@ -24,16 +21,6 @@ number_words_more (m ∷ ns) n = simp (more_words_more ns n, append_assoc)
 none_yet_more : (ns : List ℕ) (n : ℕ) → false ≡ none_yet (ns ++ n ∷ [])
 none_yet_more [] n = refl
 none_yet_more (m ∷ ns) n = refl
-
--- the numbers below n + 1 that pass a test: n is the last of them, or is not
-kept_below_more : (p : ℕ → Bool) (n : ℕ) → filter p (range_with_len 0 (n + 1)) ≡ filter p (range_with_len 0 n) ++ cond (p n) (n ∷ []) []
-kept_below_more p n = simp map-id at (filter_of_map_range_with_len_more p (λ x. x) 0 n n (zero-add n))
-
-pub kept_below_yes : (p : ℕ → Bool) (n : ℕ) → true ≡ p n → filter p (range_with_len 0 (n + 1)) ≡ filter p (range_with_len 0 n) ++ n ∷ []
-kept_below_yes p n e = rw (← e) at (kept_below_more p n)
-
-pub kept_below_no : (p : ℕ → Bool) (n : ℕ) → false ≡ p n → filter p (range_with_len 0 (n + 1)) ≡ filter p (range_with_len 0 n)
-kept_below_no p n e = rw (← e) at (kept_below_more p n) ∙ append-nil (filter p (range_with_len 0 n))
 
 module _ {W : Type 0} (took : W → List ℕ → W → Type 0) where
   -- the numbers were written between f and g; `first` says that there were none

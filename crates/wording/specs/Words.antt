@@ -1,12 +1,11 @@
 -- The words for a clause and for a line, as bytes of ASCII.
 use Rattle.std.specs.Prelude.{ℕ, cond, List, [], ◌∷◌, ◌++◌, replicate, codes, decimal, filter}
 use Rattle.std.specs.List.{range_with_len}
+use Rattle.std.specs.Option.{option_map_or}
 use Rattle.bounded.specs.Lists.{listed}
 use Rattle.groups.specs.Groups.{member, subset}
-use Rattle.conjunctive.specs.declared.clause.UserLiteral.{UserLiteral}
-use Rattle.conjunctive.specs.declared.clause.UserLiteral.TheVariants as user
-use Rattle.conjunctive.specs.declared.clause.GroupLiteral.{GroupLiteral}
-use Rattle.conjunctive.specs.declared.clause.GroupLiteral.TheVariants as group
+use Rattle.conjunctive.specs.declared.clause.Literal.{Literal}
+use Rattle.conjunctive.specs.declared.clause.Literal.TheVariants.{Positive, Negative}
 use Rattle.conjunctive.specs.declared.clause.Clause.{Clause}
 use Rattle.lines.specs.declared.line.Line.{Line}
 use Rattle.lines.specs.declared.line.UserLine.{UserLine}
@@ -19,21 +18,19 @@ marked none mark [] (y ∷ b) = y ∷ b
 marked none mark (x ∷ a) [] = x ∷ a
 marked none mark (x ∷ a) (y ∷ b) = (x ∷ a) ++ (mark ++ (y ∷ b))
 
--- a literal on the user; nothing for none
-abbrev pub user_words : UserLiteral → List ℕ
-user_words user.Absent = []
-user_words (user.Is u) = codes "user is " ++ decimal u
-user_words (user.IsNot u) = codes "user is not " ++ decimal u
+-- a literal on the user
+abbrev pub user_words : Literal ℕ → List ℕ
+user_words (Positive u) = codes "user is " ++ decimal u
+user_words (Negative u) = codes "user is not " ++ decimal u
 
--- a literal on a group; nothing for none
-abbrev pub group_words : GroupLiteral → List ℕ
-group_words group.Absent = []
-group_words (group.In g) = codes "in group " ++ decimal g
-group_words (group.NotIn g) = codes "not in group " ++ decimal g
+-- a literal on a group
+abbrev pub group_words : Literal ℕ → List ℕ
+group_words (Positive g) = codes "in group " ++ decimal g
+group_words (Negative g) = codes "not in group " ++ decimal g
 
--- a clause: its literals
+-- a clause: its literals, and nothing for one that is not there
 abbrev pub clause_words : Clause → List ℕ
-clause_words c = marked (codes "nobody") (codes ", or ") (user_words c.user) (group_words c.group)
+clause_words c = marked (codes "nobody") (codes ", or ") (option_map_or user_words c.user []) (option_map_or group_words c.group [])
 
 -- numbers, each after ", "
 abbrev pub more_words : List ℕ → List ℕ

@@ -3,29 +3,29 @@ ghost use Rattle.std.specs.Prelude.{Some};
 ghost use Rattle.wording.specs.Words.{user_words, group_words, clause_words};
 
 use crate::InWords;
-use conjunctive::clause::{Clause, GroupLiteral, UserLiteral};
+use conjunctive::clause::{Clause, Literal};
 use std::fmt;
 
-impl fmt::Display for InWords<'_, UserLiteral> {
+// A literal on the user.
+impl fmt::Display for InWords<'_, Literal<u16>> {
     ghost output = { λ s. Some (user_words s.0.now) };
 
     fn fmt<W: fmt::Write>(&self, f: &mut fmt::Formatter<W>) -> fmt::Result {
         match *self.0 {
-            UserLiteral::Absent => f.write_str(""),
-            UserLiteral::Is(u) => write!(f, "user is {u}"),
-            UserLiteral::IsNot(u) => write!(f, "user is not {u}"),
+            Literal::Positive(u) => write!(f, "user is {u}"),
+            Literal::Negative(u) => write!(f, "user is not {u}"),
         }
     }
 }
 
-impl fmt::Display for InWords<'_, GroupLiteral> {
+// A literal on a group.
+impl fmt::Display for InWords<'_, Literal<u8>> {
     ghost output = { λ s. Some (group_words s.0.now) };
 
     fn fmt<W: fmt::Write>(&self, f: &mut fmt::Formatter<W>) -> fmt::Result {
         match *self.0 {
-            GroupLiteral::Absent => f.write_str(""),
-            GroupLiteral::In(g) => write!(f, "in group {g}"),
-            GroupLiteral::NotIn(g) => write!(f, "not in group {g}"),
+            Literal::Positive(g) => write!(f, "in group {g}"),
+            Literal::Negative(g) => write!(f, "not in group {g}"),
         }
     }
 }
@@ -34,13 +34,11 @@ impl fmt::Display for InWords<'_, Clause> {
     ghost output = { λ s. Some (clause_words s.0.now) };
 
     fn fmt<W: fmt::Write>(&self, f: &mut fmt::Formatter<W>) -> fmt::Result {
-        let user = InWords(&self.0.user);
-        let group = InWords(&self.0.group);
-        match (self.0.user, self.0.group) {
-            (UserLiteral::Absent, GroupLiteral::Absent) => f.write_str("nobody"),
-            (UserLiteral::Absent, _) => group.fmt(f),
-            (_, GroupLiteral::Absent) => user.fmt(f),
-            _ => write!(f, "{user}, or {group}"),
+        match (&self.0.user, &self.0.group) {
+            (None, None) => f.write_str("nobody"),
+            (Some(user), None) => InWords(user).fmt(f),
+            (None, Some(group)) => InWords(group).fmt(f),
+            (Some(user), Some(group)) => write!(f, "{}, or {}", InWords(user), InWords(group)),
         }
     }
 }

@@ -13,7 +13,7 @@ pub struct InWords<'a, T>(pub &'a T);
 mod tests {
     use super::InWords;
     use bounded::list::Bounded;
-    use conjunctive::clause::{Clause, GroupLiteral, UserLiteral};
+    use conjunctive::clause::{Clause, Literal};
     use groups::{GroupSet, NO_GROUPS, insert};
     use lines::line::{Line, OpenLine, UserLine};
     use std::alloc::Global;
@@ -42,16 +42,12 @@ mod tests {
 
     fn clauses(rt: &impl Abort, heap: Global) -> Result<(), Fail> {
         for (user, group, words) in [
-            (UserLiteral::Absent, GroupLiteral::Absent, "nobody"),
-            (UserLiteral::Is(1), GroupLiteral::Absent, "user is 1"),
+            (None, None, "nobody"),
+            (Some(Literal::Positive(1)), None, "user is 1"),
+            (None, Some(Literal::Negative(3)), "not in group 3"),
             (
-                UserLiteral::Absent,
-                GroupLiteral::NotIn(3),
-                "not in group 3",
-            ),
-            (
-                UserLiteral::IsNot(1),
-                GroupLiteral::In(3),
+                Some(Literal::Negative(1)),
+                Some(Literal::Positive(3)),
                 "user is not 1, or in group 3",
             ),
         ] {
@@ -89,8 +85,8 @@ mod tests {
             InWords(&OpenLine { line, shut }),
             "any user: wants 1",
         )?;
-        shut.push(4);
-        shut.push(9);
+        let _ = shut.push(4);
+        let _ = shut.push(9);
         let words = "any user but 4, 9: wants 1";
         reads(rt, heap, InWords(&OpenLine { line, shut }), words)
     }

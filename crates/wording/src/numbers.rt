@@ -1,6 +1,8 @@
 // Numbers with ", " between them, as "1, 2, 7".
-ghost use Rattle.std.specs.Prelude.{[], ◌++◌, if◌then◌else◌, Some, codes, decimal};
+ghost use Rattle.std.specs.Prelude.{ℕ, List, [], ◌++◌, if◌then◌else◌, Some, codes, decimal};
 ghost use Rattle.std.specs.Fmt.{WritesOnOk};
+ghost use Rattle.std.specs.Iterator.{IsFinite};
+ghost use Rattle.std.proofs.lemmas.Iterator.{YieldsList};
 ghost use Rattle.wording.specs.Words.{number_words, groups_of};
 
 use groups::{GroupSet, contains};
@@ -25,16 +27,28 @@ fn number<W: fmt::Write>(f: &mut fmt::Formatter<W>, first: bool, n: u16) -> fmt:
     }
 }
 
+// Writes the numbers that an iterator yields, with ", " between them.
+fn write_numbers<W: fmt::Write, I: Iterator<Item = u16> + Drop>(
+    f: &mut fmt::Formatter<W>,
+    numbers: I,
+) -> fmt::Result
+    requires can { I.can_next numbers }
+    requires ends { IsFinite (I.remaining numbers) }
+    ensures { (ns : List ℕ) → YieldsList I.next_gives (λ n. n) numbers ns → WritesOnOk W.Write.write_str_gives f.old result (number_words ns) f.new }
+{
+    let mut first = true;
+    for n in numbers {
+        number(f, first, n)?;
+        first = false;
+    }
+    Ok(())
+}
+
 impl fmt::Display for Users<'_> {
     ghost output = { λ s. Some (number_words s.0.now) };
 
     fn fmt<W: fmt::Write>(&self, f: &mut fmt::Formatter<W>) -> fmt::Result {
-        let mut first = true;
-        for user in self.0 {
-            number(f, first, *user)?;
-            first = false;
-        }
-        Ok(())
+        write_numbers(f, self.0.iter().copied())
     }
 }
 
@@ -42,13 +56,6 @@ impl fmt::Display for Groups<'_> {
     ghost output = { λ s. Some (number_words (groups_of s.0.now)) };
 
     fn fmt<W: fmt::Write>(&self, f: &mut fmt::Formatter<W>) -> fmt::Result {
-        let mut first = true;
-        for group in 0..256 {
-            if contains(self.0, group as u8) {
-                number(f, first, group)?;
-                first = false;
-            }
-        }
-        Ok(())
+        write_numbers(f, (0..256).filter(|group| contains(self.0, *group as u8)))
     }
 }

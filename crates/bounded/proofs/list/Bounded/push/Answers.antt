@@ -1,17 +1,8 @@
 use Rattle.std.proofs.Common.{◌<◌, length, ◌∙◌, arith, length-set}
-use borrow.Author.Tests.{lt-true, le-false}
+use borrow.Author.Tests.{lt-true}
 use Rattle.std.proofs.lemmas.List.{take_more_set}
-use Rattle.bounded.proofs.Packing.{length_listed, from_listed, from_full, padded}
+use Rattle.bounded.proofs.Packing.{length_listed, from_listed, padded}
 use Rattle.bounded.proofs.list.Bounded.push.Goals as goal
-
-pub returns-then-self : goal.returns-then-self
-returns-then-self g c =
-    let s = c.args.self.now in
-    let long = length_listed g.row.T.coded s in
-    record {
-      room = le-false _ _ (omega (arith, long));
-      list = from_full g.row.T.coded s c.args.item c.if-self.true;
-    }
 
 pub invariant_of-self : goal.invariant_of-self
 invariant_of-self g c =

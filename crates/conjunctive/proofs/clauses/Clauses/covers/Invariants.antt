@@ -1,7 +1,7 @@
 use Rattle.std.proofs.Common.{◌≡◌, false, take}
-use Rattle.bounded.specs.Tests.{any_of}
+use Rattle.std.specs.List.{list_any}
 use Rattle.conjunctive.specs.Clauses.{within}
 use Rattle.conjunctive.proofs.clauses.Clauses.covers.Given as goal
 
 abbrev pub invariant-loop-clause : goal.invariant-loop-clause
-invariant-loop-clause l = any_of (λ x. within x l.added) (take l.clause-index l.clause-items) ≡ false
+invariant-loop-clause l = list_any (λ x. within x l.added) (take l.clause-index l.clause-items) ≡ false

@@ -1,4 +1,4 @@
-use Rattle.std.proofs.Common.{not, [], ◌∷◌, filter}
+use Rattle.std.proofs.Common.{rules, not, [], ◌∷◌, filter}
 use Rattle.bounded.specs.Lists.{listed}
 use Rattle.bounded.proofs.Loops.{pushed}
 use Rattle.conjunctive.specs.contracts.clause.Clause.{the_row}
@@ -9,4 +9,4 @@ pub returns : goal.returns
 returns c =
     let was = c.args.self.now.list in
     let added = c.args.added in
-    pushed the_row.coded 32 was.filler c.retain.new.list c.push.new.self (filter (λ x. not (within added x)) (listed was)) (added ∷ []) c.retain.ensures c.push.ensures.list
+    pushed the_row.coded 32 was.filler c.retain.new.self c.push.new.self (filter (λ x. not (within added x)) (listed was)) (added ∷ []) (c.retain.ensures (λ x. not (within added x)) (λ x b h. search rules)) c.push.ensures.list

@@ -1,13 +1,12 @@
-use Rattle.std.proofs.Common.{◌≡◌, ◌≤◌, length, take, refl, ap, ◌∙◌, ap₂, arith, length-take, take_all}
+use Rattle.std.proofs.Common.{◌≤◌, length, take, refl, ap, ◌∙◌, ap₂, arith, length-take}
 use Rattle.bounded.specs.Lists.{listed, packed}
-use Rattle.bounded.proofs.Packing.{from_listed, packed_listed, length_listed}
-use Rattle.conjunctive.specs.contracts.clause.Clause.{the_row}
 use Rattle.conjunctive.specs.Adding.{all_under}
 use Rattle.conjunctive.specs.Lengths.{all_under_le, under_more}
+use Rattle.conjunctive.proofs.Records.{from_clauses, unpacked, clause_count}
 use Rattle.conjunctive.proofs.clauses.Clauses.restart.Goals as goal
 
 pub loop-clause-init : goal.loop-clause-init
-loop-clause-init c = from_listed the_row.coded c.only.new.self.list _ refl
+loop-clause-init c = from_clauses c.only.new.self.list _ refl
 
 pub loop-clause-preserved : goal.loop-clause-preserved
 loop-clause-preserved c =
@@ -20,14 +19,6 @@ loop-clause-preserved c =
     let so_far = all_under u (listed first) (take i items) in
     let one : length (listed first) ≤ 1 = omega (arith, ap (λ b. length (listed b)) c.only.ensures) in
     let room : length so_far ≤ 32 =
-    omega (arith, all_under_le u (listed first) (take i items), length-take i items, one, ap length c.as_slice-clause-items.ensures, length_listed the_row.coded old, c.requires) in
-    let is : listed out ≡ so_far = ap listed c.loop-clause.invariant ∙ packed_listed the_row.coded first.filler so_far room in
-    c.add_under.ensures
-    ∙ ap₂ (packed 32) (ap (λ b. b.filler) c.loop-clause.invariant) (under_more u (listed first) items i _ (listed out) c.loop-clause-test.true is)
-
-pub returns : goal.returns
-returns c =
-    let items = c.as_slice-clause-items.result.now in
-    c.loop-clause.invariant
-    ∙ ap₂ (packed 32) (ap (λ b. b.filler) c.only.ensures)
-    (ap₂ (all_under c.args.u) (ap listed c.only.ensures) (take_all c.loop-clause.clause-index items c.loop-clause-test.false ∙ c.as_slice-clause-items.ensures))
+    omega (arith, all_under_le u (listed first) (take i items), length-take i items, one, ap length c.as_slice-clause-items.ensures, clause_count old, c.requires) in
+    let is = unpacked out first.filler so_far c.loop-clause.invariant room in
+    c.add_under.ensures ∙ ap₂ (packed 32) is.2 (under_more u (listed first) items i _ (listed out) c.loop-clause-test.true is.0)

@@ -1,9 +1,8 @@
-use Rattle.std.proofs.Common.{◌≡◌, ◌+◌, ◌*◌, ◌≤◌, length, sym, ap, ◌∙◌, arith, rules, lt-ltb}
+use Rattle.std.proofs.Common.{◌+◌, ◌*◌, ◌≤◌, length, sym, ap, ◌∙◌, arith, rules, lt-ltb}
 use borrow.Author.Tests.{lt-true}
 use Rattle.std.proofs.lemmas.Bool.{cond-true}
 use Rattle.bounded.specs.Lists.{listed}
-use Rattle.bounded.proofs.Packing.{packed_listed, length_listed}
-use Rattle.conjunctive.specs.contracts.clause.Clause.{the_row}
+use Rattle.conjunctive.proofs.Records.{unpacked, clause_count}
 use Rattle.conjunctive.specs.Clauses.{tidy}
 use Rattle.conjunctive.specs.Requirement.{clauses_after, list_of, narrowed}
 use Rattle.conjunctive.proofs.Anew.{begins_anew}
@@ -15,12 +14,9 @@ pub invariant_of-self : goal.invariant_of-self
 invariant_of-self c =
     let r = c.args.self.now in
     let d = c.args.directory.now in
-    let list = c.narrow.new.self.list in
-    let few : length (clauses_after d (list_of r)) ≤ 2 * r.level + 2 = omega (arith, after_le d (list_of r), length_listed the_row.coded r.clauses.list, r.ok.1) in
-    let room : length (clauses_after d (list_of r)) ≤ 32 = omega (arith, few) in
-    let holds : listed list ≡ clauses_after d (list_of r) =
-    ap listed c.narrow.ensures ∙ packed_listed the_row.coded r.clauses.list.filler (clauses_after d (list_of r)) room in
-    record { ok = (omega arith, omega (arith, few, ap length holds, length_listed the_row.coded list), ap tidy holds ∙ after_tidy d (list_of r) r.ok.2) }
+    let few : length (clauses_after d (list_of r)) ≤ 2 * r.level + 2 = omega (arith, after_le d (list_of r), clause_count r.clauses.list, r.ok.1) in
+    let is = unpacked c.narrow.new.self.list r.clauses.list.filler (clauses_after d (list_of r)) c.narrow.ensures (omega (arith, few)) in
+    record { ok = (omega arith, omega (arith, few, is.1), ap tidy is.0 ∙ after_tidy d (list_of r) r.ok.2) }
 
 pub returns-then-self-ge16 : goal.returns-then-self-ge16
 returns-then-self-ge16 c = record { answer = search rules; after = search rules; list = search rules; anew = begins_anew }

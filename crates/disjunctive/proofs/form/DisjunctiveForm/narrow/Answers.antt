@@ -12,9 +12,9 @@ invariant_of-self c =
     let d = c.args.directory.now in
     let low : r.level < 16 = omega arith in
     let table =
-    table_after r d low c.treat.new.self.table c.grant.new.self.table c.settle.new.self.table c.reopened-others.result
-    c.treat.ensures c.grant.ensures c.reopened-others.ensures c.settle.ensures in
-    record { ok = (omega arith, ap₂ (tidy (r.level + 1)) (ap listed table ∙ packs r d low) c.reopened-others.ensures ∙ after r d low) }
+    table_after r d low c.treat.new.self.table c.grant.new.self.table c.settle.new.self.table c.reopen.new.others
+    c.treat.ensures c.grant.ensures c.reopen.ensures c.settle.ensures in
+    record { ok = (omega arith, ap₂ (tidy (r.level + 1)) (ap listed table ∙ packs r d low) c.reopen.ensures ∙ after r d low) }
 
 pub returns : goal.returns
 returns c =
@@ -22,11 +22,11 @@ returns c =
     let d = c.args.directory.now in
     let low : r.level < 16 = omega arith in
     let table =
-    table_after r d low c.treat.new.self.table c.grant.new.self.table c.settle.new.self.table c.reopened-others.result
-    c.treat.ensures c.grant.ensures c.reopened-others.ensures c.settle.ensures in
+    table_after r d low c.treat.new.self.table c.grant.new.self.table c.settle.new.self.table c.reopen.new.others
+    c.treat.ensures c.grant.ensures c.reopen.ensures c.settle.ensures in
     record {
       answer = sym (lt-ltb r.level 16 low);
-      after = narrowed_is r _ d low refl table c.reopened-others.ensures ∙ cond_below r.level 16 _ r low;
+      after = narrowed_is r _ d low refl table c.reopen.ensures ∙ cond_below r.level 16 _ r low;
       lines = ap listed table ∙ packs r d low ∙ cond_below r.level 16 _ _ low;
-      others = c.reopened-others.ensures ∙ cond_below r.level 16 _ _ low;
+      others = c.reopen.ensures ∙ cond_below r.level 16 _ _ low;
     }

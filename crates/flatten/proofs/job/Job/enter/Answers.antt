@@ -1,13 +1,37 @@
-use Rattle.std.proofs.Common.{refl}
-use Rattle.flatten.proofs.Entering.{entered_last, entered_full}
+use Rattle.std.proofs.Common.{◌++◌, [], ◌∷◌, length, Err, lt-ltb, refl, sym, ap, ◌∙◌, arith, length-append}
+use Rattle.std.proofs.lemmas.Result.{err_from_is_err_and}
+use borrow.Author.Tests.{true-ltb, false-ltb}
+use Rattle.bounded.specs.Lists.{listed}
+use Rattle.bounded.proofs.Packing.{length_listed, packed_listed, from_full}
+use Rattle.rights.specs.contracts.directory.Directory.{the_row}
 use Rattle.flatten.proofs.job.Job.enter.Goals as goal
 
-pub returns-then-push : goal.returns-then-push
-returns-then-push c =
-    entered_last c.args.owner c.args.group c.args.mode c.args.self.now _ _ c.if-self.false c.if-push.ensures.room
-    (record { owner_is = refl; group_is = refl; execute_is = c.execute_of.ensures }) c.push.ensures.list refl
+-- where there is room
+pub returns : goal.returns
+returns c =
+    let path = c.args.self.now.path in
+    let room = true-ltb _ _ c.in_ok-push.ensures.room in
+    rw (c.if-self.false, ← c.in_ok-push.ensures.room) (
+      refl,
+      record {
+        directory = _;
+        described = record { owner_is = refl; group_is = refl; execute_is = c.execute_of.ensures };
+        path =
+            ap listed c.push.ensures.list
+            ∙ packed_listed the_row.coded {n = 16} path.filler (listed path ++ (_ ∷ [])) (simp length-append (omega arith));
+        ended = refl;
+      },
+    )
 
-pub returns-else-push : goal.returns-else-push
-returns-else-push c =
-    entered_full c.args.owner c.args.group c.args.mode c.args.self.now _ _ _ c.if-self.false c.if-push.ensures.room
-    c.push.ensures.list c.refuse.ensures.answer c.refuse.ensures.after
+-- where 16 directories are there
+pub returns-in_err-push : goal.returns-in_err-push
+returns-in_err-push c =
+    let path = c.args.self.now.path in
+    let room = c.in_err-push.ensures.room in
+    let full = false-ltb _ _ room in
+    let same = c.push.ensures.list ∙ sym (from_full the_row.coded path _ (omega (arith, length_listed the_row.coded path))) in
+    let answer = err_from_is_err_and c.from_residual.result c.from_residual.ensures.1 in
+    rw (c.if-self.false, ← room, answer.1) (
+      ap Err answer.2,
+      rw (same, lt-ltb 0 (length (listed path)) (omega arith)),
+    )

@@ -1,5 +1,5 @@
 use Rattle.std.proofs.Common.{eqb, ap, ◌∙◌}
-use Rattle.bounded.specs.Tests.{any_of}
+use Rattle.std.specs.List.{list_any}
 use Rattle.bounded.specs.Lists.{listed}
 use Rattle.lines.specs.declared.line.UserLine.{UserLine}
 use Rattle.lines.proofs.Turns.{has_line}
@@ -8,5 +8,5 @@ use Rattle.lines.proofs.table.Lines.has.Goals as goal
 pub returns : goal.returns
 returns c =
     c.has_key.ensures
-    ∙ ap (any_of (λ (l : UserLine). eqb l.user c.args.user)) c.as_slice.ensures
+    ∙ ap (list_any (λ (l : UserLine). eqb l.user c.args.user)) c.as_slice.ensures
     ∙ has_line (listed c.args.self.now.table) c.args.user

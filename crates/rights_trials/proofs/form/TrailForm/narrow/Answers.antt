@@ -1,28 +1,16 @@
-use Rattle.std.proofs.Common.{ltb, sym, ap, ◌∙◌}
+use Rattle.std.proofs.Common.{◌≡◌, ltb, sym, refl, ap, ◌∙◌}
 use borrow.Author.Tests.{false-ltb}
-use Rattle.std.proofs.lemmas.Bool.{cond-true, cond-false}
-use Rattle.bounded.proofs.Packing.{length_listed, from_full}
+use Rattle.std.proofs.lemmas.Bool.{cond_both}
+use Rattle.bounded.proofs.Packing.{from_full}
 use Rattle.rights.specs.contracts.directory.Directory.{the_row}
 use Rattle.rights_trials.specs.Trails.{trails}
 use Rattle.rights_trials.proofs.form.TrailForm.narrow.Goals as goal
 
-pub returns-then-push : goal.returns-then-push
-returns-then-push c =
+-- a full trail takes no more
+pub returns-clause-after : goal.returns-clause-after
+returns-clause-after c =
     let t = c.args.self.now in
     let d = c.args.directory.now in
-    let room = c.if-push.ensures.room ∙ ap (λ n. ltb n 16) (length_listed the_row.coded t.path) in
-    record {
-      answer = room;
-      after = ap (λ p. record { path = p }) c.push.ensures.list ∙ sym (cond-true _ (trails.narrowed t d) t (sym room));
-    }
-
-pub returns-else-push : goal.returns-else-push
-returns-else-push c =
-    let t = c.args.self.now in
-    let d = c.args.directory.now in
-    let room = c.if-push.ensures.room ∙ ap (λ n. ltb n 16) (length_listed the_row.coded t.path) in
-    let stays = c.push.ensures.list ∙ sym (from_full the_row.coded t.path d (false-ltb _ _ room)) in
-    record {
-      answer = room;
-      after = ap (λ p. record { path = p }) stays ∙ sym (cond-false _ (trails.narrowed t d) t (sym room));
-    }
+    ap (λ p. record { path = p }) c.push.ensures.list
+    ∙ cond_both (ltb t.path.count 16) (trails.narrowed t d) t (λ u. trails.narrowed t d ≡ u) (λ low. refl)
+    (λ full. ap (λ p. record { path = p }) (sym (from_full the_row.coded t.path d (false-ltb _ _ (sym full)))))

@@ -1,17 +1,11 @@
-use Rattle.std.proofs.Common.{◌≡◌, arith}
+use Rattle.std.proofs.Common.{rules, refl}
+use Rattle.std.proofs.lemmas.Iterator.{YieldsList-from_range}
+use Rattle.std.proofs.lemmas.Iterator.Consumers.{YieldsList-from_filter}
 use Rattle.groups.specs.Groups.{member}
 use Rattle.wording.specs.Words.{groups_of}
-use Rattle.wording.proofs.Listing.{kept_below_yes, kept_below_no, listed_more}
 use Rattle.wording.proofs.numbers.GroupsDisplay.fmt.Goals as goal
-use Rattle.wording.proofs.numbers.GroupsDisplay.fmt.Goals.{then-contains+in_ok-number, else-contains}
-
-pub loop-group-preserved : goal.loop-group-preserved
-loop-group-preserved g c = let p = member c.args.self.now.0.now in let n = c.loop-group.group in
-    elim c.if-contains.branch [
-      | then-contains+in_ok-number w ↦ simp (w.first-is, w.f-is, kept_below_yes p n w.if-contains.ensures) (listed_more _ n c.loop-group.invariant w.in_ok-number.ensures)
-      | else-contains w ↦ simp (w.first-is, w.f-is, kept_below_no p n w.if-contains.ensures) c.loop-group.invariant
-    ]
 
 pub returns-clause-writes : goal.returns-clause-writes
 unfolding groups_of
-returns-clause-writes g c plain _ = let e : c.loop-group.group ≡ 256 = omega arith in simp e at (c.loop-group.invariant.text plain)
+returns-clause-writes g c =
+    c.write_numbers.ensures _ (YieldsList-from_filter _ (member c.args.self.now.0.now) (YieldsList-from_range 0 256 256 c.filter.ensures.source refl) c.filter.ensures.closure (λ x b q k. search rules))

@@ -1,0 +1,15 @@
+// The refusal to add an item to a full list.
+ghost use Rattle.std.specs.Prelude.{Some, codes};
+
+use std::fmt;
+
+#[derive(Clone, Copy, PartialEq, Eq, Debug)]
+pub struct Full;
+
+impl fmt::Display for Full {
+    ghost output = { λ _. Some (codes "the list is full") };
+
+    fn fmt<W: fmt::Write>(&self, f: &mut fmt::Formatter<W>) -> fmt::Result {
+        f.write_str("the list is full")
+    }
+}
