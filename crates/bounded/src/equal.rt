@@ -6,6 +6,7 @@ ghost use Rattle.bounded.specs.Lists.{listed};
 
 use crate::list::Bounded;
 
+// Written out: a derive would compare the unused places and the filler too.
 impl<T: Copy + PartialEq, const N: usize> PartialEq for Bounded<T, N> {
     ghost eq = { λ a b. pointwise T.eq (listed a) (listed b) };
 

@@ -1,6 +1,7 @@
 // The refusal to add an item to a full list.
 ghost use Rattle.std.specs.Prelude.{Some, codes};
 
+use std::error::Error;
 use std::fmt;
 
 #[derive(Clone, Copy, PartialEq, Eq, Debug)]
@@ -13,3 +14,5 @@ impl fmt::Display for Full {
         f.write_str("the list is full")
     }
 }
+
+impl Error for Full {}

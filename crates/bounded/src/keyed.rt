@@ -2,7 +2,7 @@
 ghost use Rattle.std.specs.Prelude.{◌≡◌, ℕ, nat_eq};
 ghost use Rattle.std.specs.List.{list_any};
 
-// What has a key.
+// What has a key. A trait and no closure, since three contracts name the key.
 pub trait Keyed: Copy {
     ghost key: { Self → ℕ };
 
@@ -18,7 +18,7 @@ impl Keyed for u16 {
     }
 }
 
-// Whether some item has the key.
+// Whether some item has the key. Searched from the front, since it holds of any list, in order or not.
 pub fn has_key<T: Keyed>(items: &[T], key: u16) -> bool
     ensures { result ≡ list_any (λ x. nat_eq (T.Keyed.key x) key) items.now }
 {

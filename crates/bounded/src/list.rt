@@ -1,8 +1,9 @@
-// The list itself: `count` items, and the filler in every place past them, so that equal lists are equal records.
+// The list itself: `count` items, and the filler in every place past them, so that lists with the same items and filler are equal records.
 ghost use Rattle.std.specs.Prelude.{◌≡◌, ◌-◌, ◌≤◌, length, drop, replicate};
 
 use std::alloc::AllocError;
 
+// A fixed size and no heap, since a record lies with its node, and narrowing must not fail for want of memory.
 pub struct Bounded<T: Copy, const N: usize> {
     pub count: usize,
     pub items: [T; N],

@@ -8,7 +8,7 @@ use crate::clauses::Clauses;
 use rights::subject::Subject;
 
 impl Clauses {
-    // Whether each clause holds of the subject.
+    // Whether each clause holds of the subject. A loop, as docs/DECISIONS.md says.
     pub fn hold(&self, subject: &Subject<'_>) -> bool
         ensures { result ≡ all_hold (listed self.now.list) (who_of subject.now) }
     {

@@ -7,13 +7,14 @@ use groups::contains;
 use rights::subject::Subject;
 
 // A literal on a number: positive is "user is u" or "in group g", negative "user is not u" or "not in group g".
-#[derive(Clone, Copy, PartialEq, Eq)]
+// An enum, and no struct of a `Sign` and a number, since the two are matched together.
+#[derive(Clone, Copy, PartialEq, Eq, Debug)]
 pub enum Literal<T> {
     Positive(T),
     Negative(T),
 }
 
-#[derive(Clone, Copy, PartialEq, Eq)]
+#[derive(Clone, Copy, PartialEq, Eq, Debug)]
 pub struct Clause {
     pub user: Option<Literal<u16>>,
     pub group: Option<Literal<u8>>,

@@ -30,6 +30,7 @@ impl Form for Conjunctive {
         self.level
     }
 
+    // The first two clauses are the trait's, which a method with clauses of its own has to repeat.
     fn narrow(&mut self, directory: &Directory) -> Result<(), TooDeep>
         ensures answer { is_ok result ≡ nat_lt (conjunctions.level self.old) 16 }
         ensures after { self.new ≡ (if ltb (conjunctions.level self.old) 16 then conjunctions.narrowed self.old directory.now else self.old) }

@@ -1,8 +1,8 @@
 // Adding a clause to the list, by the first rule that settles it.
-ghost use Rattle.std.specs.Prelude.{◌≡◌, ◌<◌, ◌≤◌, not, [], ◌∷◌};
+ghost use Rattle.std.specs.Prelude.{◌≡◌, ◌<◌, ◌≤◌, [], ◌∷◌};
 ghost use Rattle.bounded.specs.Lists.{holding, listed};
 ghost use Rattle.std.specs.List.{list_any};
-ghost use Rattle.conjunctive.specs.Clauses.{within, is_empty, lone_in};
+ghost use Rattle.conjunctive.specs.Clauses.{is_empty, lone_in};
 ghost use Rattle.conjunctive.specs.Adding.{struck, covers, ended, put_left, add_under, all_under, added};
 ghost use Rattle.conjunctive.specs.Requirement.{literal_of, clauses_after};
 
@@ -40,7 +40,7 @@ impl Clauses {
             .find_map(|clause| clause.lone_user())
     }
 
-    // Whether a clause of the list has only literals of this one.
+    // Whether a clause of the list has only literals of this one. A loop, as docs/DECISIONS.md says.
     fn covers(&self, added: Clause) -> bool
         ensures { result ≡ covers (listed self.now.list) added }
     {
@@ -104,6 +104,7 @@ impl Clauses {
         self.put_left(clause.struck(u));
     }
 
+    // Here and below each `requires` asks for another room, so the room is in no type.
     // Begins anew with a lone "user is u", and adds the old clauses to it.
     fn restart(&mut self, u: u16, lone: Clause)
         requires { self.old.list.count < 32 }

@@ -1,8 +1,8 @@
 -- Whom lines and the open line admit after each move.
 use Rattle.std.specs.Prelude.{◌≡◌, ℕ, ◌<◌, Bool, true, false, cond, not, ◌&&◌, ◌||◌, List, [], ◌∷◌, Some, None, Option, ◌==◌, nat_eq, refl}
 use Rattle.std.proofs.Common.{sym, ap, ap₂, ◌∙◌, arith}
-use Rattle.std.proofs.Math.Bool.{or-false, and-false, and-true, and_assoc, and-or_distrib_right}
-use Rattle.std.proofs.lemmas.Bool.{and_from, and_parts, both_ways, eqb-true, false_from_ne_true, not_from_false, false≢true}
+use Rattle.std.proofs.Math.Bool.{and_assoc, and-or_distrib_right}
+use Rattle.std.proofs.lemmas.Bool.{and_from, and_parts, both_ways, eqb-true, false_from_ne_true, not_from_false}
 use Rattle.groups.specs.Groups.{member, subset, disjoint}
 use Rattle.groups.proofs.Sets.{subset_inserted, disjoint_inserted, subset_trans, disjoint_smaller, not_both}
 use Rattle.rights.specs.Subjects.{Who, may}
@@ -15,7 +15,7 @@ use Rattle.lines.specs.declared.line.UserLine.{UserLine}
 use Rattle.lines.specs.declared.line.OpenLine.{OpenLine}
 use Rattle.lines.specs.Lines.{line_admits, lines_admit, open_admits, shut_out, within}
 use Rattle.lines.specs.Moves.{treated, treated_by, its_line, move_1, consistent, move_4_open, covered, move_4}
-use Rattle.bounded.proofs.Bools.{and_same, cond_same}
+use Rattle.bounded.proofs.Bools.{and_same}
 use Rattle.lines.proofs.Pieces.{piece}
 use Rattle.disjunctive.specs.Tested.{any_kept_or}
 
@@ -31,24 +31,14 @@ rest_admits (Some l) w = line_admits l w
 -- a treated line asks for the bit of the class in which another than the owner stands
 pub treated_law : (group others : Bool) (g : ℕ) (l : Line) (w : Who) → g < 256
     → rest_admits (treated group others g l) w ≡ (line_admits l w && cond (member w.groups g) group others)
-treated_law true true g l w h = sym (ap (λ b. line_admits l w && b) (cond_same (member w.groups g) true) ∙ and-true (line_admits l w))
-treated_law true false g l w h =
-    ap (λ b. b && disjoint l.barred w.groups) (subset_inserted l.wanted w.groups g l.full.0 h)
-    ∙ turn (subset l.wanted w.groups) (disjoint l.barred w.groups) (member w.groups g)
-  where
-    turn : (a b c : Bool) → ((a && c) && b) ≡ ((a && b) && cond c true false)
-    turn a b c = grind arith
-treated_law false true g l w h =
-    ap (λ b. subset l.wanted w.groups && b) (disjoint_inserted l.barred w.groups g l.full.1 h)
-    ∙ turn (subset l.wanted w.groups) (disjoint l.barred w.groups) (member w.groups g)
-  where
-    turn : (a b c : Bool) → (a && (b && not c)) ≡ ((a && b) && cond c false true)
-    turn a b c = grind arith
-treated_law false false g l w h = sym (ap (λ b. line_admits l w && b) (cond_same (member w.groups g) false) ∙ and-false (line_admits l w))
+treated_law true true g l w h = grind arith
+treated_law true false g l w h = grind (arith, subset_inserted l.wanted w.groups g l.full.0 h)
+treated_law false true g l w h = grind (arith, disjoint_inserted l.barred w.groups g l.full.1 h)
+treated_law false false g l w h = grind arith
 
 its_line_law : (u : ℕ) (o : Option Line) (w : Who) → lines_admit (its_line u o) w ≡ (u == w.user && rest_admits o w)
-its_line_law u None w = sym (and-false (u == w.user))
-its_line_law u (Some l) w = or-false (u == w.user && line_admits l w)
+its_line_law u None w = grind arith
+its_line_law u (Some l) w = grind arith
 
 -- the class rule, by whether the subject is the owner and whether it is in the group
 pub class_rule : (e : Execute) (own ing : Bool) → execute_of e (class_by own ing) ≡ cond own e.owner (cond ing e.group e.others)
@@ -59,8 +49,7 @@ class_rule e false false = refl
 -- move 1 asks of each line what the directory asks of the line's user
 module _ (d : Directory) (w : Who) where
   kept : (b : Bool) (l : UserLine) → lines_admit (cond b (l ∷ []) []) w ≡ (passes w l && b)
-  kept true l = or-false _ ∙ sym (and-true _)
-  kept false l = sym (and-false _)
+  kept b l = grind arith
 
   piece_law : (own : Bool) (l : UserLine)
       → lines_admit (piece d own l) w ≡ (passes w l && execute_of d.execute (class_by own (member w.groups d.group)))
@@ -92,19 +81,12 @@ within_parts a b = and_parts (subset a.wanted b.wanted) (subset a.barred b.barre
 
 -- a line within another admits all that the other does
 pub admits_within : (a b : Line) (w : Who) → within a b ≡ true → line_admits b w ≡ true → line_admits a w ≡ true
-admits_within a b w i t =
-    let k = within_parts a b i in
-    let m = and_parts (subset b.wanted w.groups) (disjoint b.barred w.groups) t in
-    and_from _ _ (subset_trans a.wanted b.wanted w.groups k.0 m.0) (disjoint_smaller a.barred b.barred w.groups k.1 m.1)
+admits_within a b w i t = grind (arith, subset_trans a.wanted b.wanted w.groups, disjoint_smaller a.barred b.barred w.groups)
 
 -- move 4 changes nobody's right
 pub move_4_open_law : (p : Option OpenLine) (w : Who) → open_admits (move_4_open p) w ≡ open_admits p w
 move_4_open_law None w = refl
-move_4_open_law (Some o) w = by (consistent o.line) (λ t. admits_consistent o.line w (and_parts (not (shut_out o w.user)) (line_admits o.line w) t).1)
-  where
-    by : (b : Bool) → (open_admits (Some o) w ≡ true → b ≡ true) → open_admits (cond b (Some o) None) w ≡ open_admits (Some o) w
-    by true f = refl
-    by false f = sym (false_from_ne_true (open_admits (Some o) w) (λ t. false≢true (f t)))
+move_4_open_law (Some o) w = grind (arith, admits_consistent o.line w)
 
 covered_law : (p : Option OpenLine) (l : UserLine) (w : Who) → passes w l ≡ true → covered p l ≡ true → open_admits p w ≡ true
 covered_law None l w t c = c

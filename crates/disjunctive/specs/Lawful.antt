@@ -15,7 +15,7 @@ use Rattle.disjunctive.specs.declared.record.Disjunctive.{Disjunctive}
 use Rattle.lines.specs.Lines.{line_admits, lines_admit, open_admits, has, within}
 use Rattle.lines.specs.Lines.{same_sets, same_open, same_line}
 use Rattle.disjunctive.specs.Requirement.{list_of, narrowed, disjunctions}
-use Rattle.bounded.proofs.Bools.{same_by}
+use Rattle.std.specs.Cmp.{both_ways}
 use Rattle.disjunctive.specs.Admitting.{admits_within}
 use Rattle.disjunctive.specs.Narrowing.{narrow_law}
 use Rattle.disjunctive.specs.Narrowed.{narrowed_made}
@@ -24,7 +24,7 @@ use Rattle.disjunctive.specs.Narrowed.{narrowed_made}
 sets_equal : (a b : Line) (w : Who) → same_sets a b ≡ true → line_admits a w ≡ line_admits b w
 sets_equal a b w e =
     let k = and_parts (within a b) (within b a) e in
-    same_by (line_admits a w) (line_admits b w) (admits_within b a w k.1) (admits_within a b w k.0)
+    both_ways (line_admits a w) (line_admits b w) (admits_within b a w k.1) (admits_within a b w k.0)
 
 lines_equal : (ks ls : List UserLine) (w : Who) → pointwise same_line ks ls ≡ true → lines_admit ks w ≡ lines_admit ls w
 lines_equal [] [] w e = refl

@@ -1,9 +1,8 @@
 -- Tests at some item of a list, where items are left out, put in or changed.
 use Rattle.std.specs.Prelude.{◌≡◌, ℕ, Bool, true, false, cond, not, ◌&&◌, ◌||◌, ltb, List, [], ◌∷◌, filter, ◌==◌, nat_lt, refl}
-use Rattle.std.proofs.Common.{sym, ap, ap₂, ◌∙◌, inl, inr, arith}
-use Rattle.std.proofs.Math.Bool.{or_assoc}
+use Rattle.std.proofs.Common.{sym, ap, ap₂, ◌∙◌, arith}
 use Rattle.std.specs.List.{AllByRecursion, list_all, list_any}
-use Rattle.std.proofs.lemmas.Bool.{and_parts, or_cases, or_from, or_left, or_parts, or_right}
+use Rattle.std.proofs.lemmas.Bool.{or_parts}
 use Rattle.std.proofs.lemmas.Bool.Decides.{nat_tests}
 use Rattle.std.proofs.lemmas.List.Folds.{list_any-append}
 use Rattle.bounded.specs.Places.{placed}
@@ -15,9 +14,7 @@ module _ {X : Type 0} where
 
   any_or : (p q : X → Bool) (xs : List X) → list_any (λ x. p x || q x) xs ≡ (list_any p xs || list_any q xs)
   any_or p q [] = refl
-  any_or p q (x ∷ xs) =
-      ap (λ b. (p x || q x) || b) (any_or p q xs) ∙ or_assoc (p x) (q x) (list_any p xs || list_any q xs)
-      ∙ ap (λ b. p x || b) (or_middle (q x) (list_any p xs) (list_any q xs)) ∙ sym (or_assoc (p x) (list_any p xs) (q x || list_any q xs))
+  any_or p q (x ∷ xs) = grind (arith, any_or p q xs)
 
   any_cond : (q : X → Bool) (b : Bool) (x : X) (xs : List X) → list_any q (cond b (x ∷ xs) xs) ≡ (b && q x || list_any q xs)
   any_cond q true x xs = refl
@@ -25,7 +22,7 @@ module _ {X : Type 0} where
 
   any_kept : (k q : X → Bool) (xs : List X) → list_any q (filter k xs) ≡ list_any (λ x. k x && q x) xs
   any_kept k q [] = refl
-  any_kept k q (x ∷ xs) = any_cond q (k x) x (filter k xs) ∙ ap (λ b. k x && q x || b) (any_kept k q xs)
+  any_kept k q (x ∷ xs) = grind (arith, any_kept k q xs)
 
   -- what is left out does not count where another test passes for it
   pub any_kept_or : (k q : X → Bool) (b : Bool) (xs : List X) → ((x : X) → q x ≡ true → b ≡ false → k x ≡ true) → (list_any q (filter k xs) || b) ≡ (list_any q xs || b)
@@ -50,16 +47,11 @@ module _ {X : Type 0} where
   pub any_where : (p q r : X → Bool) (xs : List X) → ((x : X) → p x ≡ true → q x ≡ true → r x ≡ true)
       → list_all p xs ≡ true → list_any q xs ≡ true → list_any r xs ≡ true
   any_where p q r [] f all any = any
-  any_where p q r (x ∷ xs) f all any =
-      let here = and_parts (p x) (list_all p xs) all in
-      elim (or_cases (q x) (list_any q xs) any) [
-        | inl t ↦ or_left (r x) (list_any r xs) (f x here.0 t)
-        | inr t ↦ or_right (r x) (list_any r xs) (any_where p q r xs f here.1 t)
-      ]
+  any_where p q r (x ∷ xs) f all any = grind (arith, f x, any_where p q r xs f)
 
   pub any_none : (p : X → Bool) (xs : List X) → AllByRecursion (λ x. p x ≡ false) xs → list_any p xs ≡ false
   any_none p [] h = refl
-  any_none p (x ∷ xs) h = or_from (p x) (list_any p xs) h.0 (any_none p xs h.1)
+  any_none p (x ∷ xs) h = grind (arith, any_none p xs)
 
   pub none_any : (p : X → Bool) (xs : List X) → list_any p xs ≡ false → AllByRecursion (λ x. p x ≡ false) xs
   none_any p [] e = tt

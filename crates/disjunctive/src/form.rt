@@ -36,6 +36,7 @@ impl Form for Disjunctive {
         self.level
     }
 
+    // The first two clauses are the trait's, which a method with clauses of its own has to repeat.
     fn narrow(&mut self, directory: &Directory) -> Result<(), TooDeep>
         ensures answer { is_ok result ≡ nat_lt (disjunctions.level self.old) 16 }
         ensures after { self.new ≡ (if ltb (disjunctions.level self.old) 16 then disjunctions.narrowed self.old directory.now else self.old) }

@@ -1,6 +1,5 @@
 // What the lines of an inquiry come to: a path, and after it the subjects that ask.
-ghost use Rattle.std.specs.Prelude.{◌≡◌, ◌%◌, false, []};
-ghost use Rattle.rights.specs.Modes.{execute_bits};
+ghost use Rattle.std.specs.Prelude.{◌≡◌, false, []};
 ghost use Rattle.inquiry.specs.Lines.{line_of};
 ghost use Rattle.flatten.specs.declared.job.Wrong.TheVariants as wrong;
 ghost use Rattle.flatten.specs.Jobs.{path_of, ended_if_wrong, Entered, Taken};
@@ -11,7 +10,6 @@ use inquiry::{Asker, BadLine, Description, Line, read_line};
 use rights::directory::Directory;
 use rights::execute::Execute;
 use rights::form::TooDeep;
-use rights::mode::Mode;
 use std::error::Error;
 use std::fmt;
 
@@ -66,13 +64,6 @@ pub struct Job {
     ended: bool,
 }
 
-// The execute bits of a mode; what stands above its nine permission bits does not count.
-fn execute_of(mode: u16) -> Execute
-    ensures { result ≡ execute_bits (mode % 512) }
-{
-    Mode::try_from(mode % 512).unwrap().into()
-}
-
 impl Job {
     pub fn new() -> Job
         ensures path { path_of result ≡ [] }
@@ -114,7 +105,7 @@ impl Job {
         taken
     }
 
-    // Takes one line in, and leaves the job as it was where the line is wrong.
+    // Takes one line in; where the line is wrong, the path stays as it was.
     fn take(&mut self, text: &[u8]) -> Result<Option<Asker>, Wrong>
         ensures { Taken (line_of text.now) self.old result (ended_if_wrong result self.new) }
     {
@@ -134,12 +125,7 @@ impl Job {
         if self.ended {
             return Err(Wrong::PathEnded);
         }
-        let directory = Directory {
-            owner: description.owner,
-            group: description.group,
-            execute: execute_of(description.mode),
-        };
-        self.path.push(directory)?;
+        self.path.push(description.into())?;
         Ok(None)
     }
 }

@@ -4,6 +4,7 @@ ghost use Rattle.std.specs.Prelude.{◌≡◌, ℕ, ◌<◌, ◌||◌, ◌==◌}
 ghost use Rattle.groups.specs.Groups.{member, inserted, subset, disjoint};
 
 // A set of group numbers 0 to 255, as 32 bytes: group g is bit 7 - g % 8 of byte g / 8, bit 7 the most significant.
+// An alias, since a subject borrows its groups out of bytes from elsewhere.
 pub type GroupSet = [u8; 32];
 
 pub const NO_GROUPS: GroupSet = [0; 32];
@@ -12,7 +13,7 @@ pub const NO_GROUPS: GroupSet = [0; 32];
 pub fn contains(set: &GroupSet, group: u8) -> bool
     ensures { result ≡ member set.now group }
 {
-    (set[(group / 8) as usize] >> (7 - group % 8)) % 2 == 1
+    (set[usize::from(group / 8)] >> (7 - group % 8)) % 2 == 1
 }
 
 // Puts the group into the set.
@@ -20,7 +21,7 @@ pub fn insert(set: &mut GroupSet, group: u8)
     ensures bytes { set.new ≡ inserted set.old group }
     ensures members { (h : ℕ) → h < 256 → member set.new h ≡ (h == group || member set.old h) }
 {
-    set[(group / 8) as usize] |= 1 << (7 - group % 8);
+    set[usize::from(group / 8)] |= 1 << (7 - group % 8);
 }
 
 // Whether each group of the first set is in the second.

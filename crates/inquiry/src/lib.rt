@@ -52,7 +52,7 @@ fn is_who(field: &[u8]) -> bool
     field == b"who".as_slice()
 }
 
-// What the line says, or what is wrong with it.
+// What the line says, or what is wrong with it. No `TryFrom`, so that each of the two promises is a clause.
 pub fn read_line(text: &[u8]) -> Result<Line, BadLine>
     ensures line { result ≡ line_of text.now }
     ensures written { ReadsBack text.now result }

@@ -1,9 +1,12 @@
 // What a line says, and what can be wrong with one.
-ghost use Rattle.std.specs.Prelude.{◌≡◌};
+ghost use Rattle.std.specs.Prelude.{◌≡◌, ◌%◌};
+ghost use Rattle.rights.specs.Modes.{execute_bits};
 ghost use Rattle.rights.specs.Subjects.{who_of};
 ghost use Rattle.inquiry.specs.Asking.{asker};
 
 use groups::GroupSet;
+use rights::directory::Directory;
+use rights::mode::Mode;
 use rights::subject::Subject;
 use std::error::Error;
 use std::fmt;
@@ -14,6 +17,19 @@ pub struct Description {
     pub owner: u16,
     pub group: u8,
     pub mode: u16,
+}
+
+// What stands above the nine permission bits of its mode does not count.
+impl From<Description> for Directory {
+    ghost from_gives = { λ description directory. (directory.owner ≡ description.owner) × (directory.group ≡ description.group) × (directory.execute ≡ execute_bits (description.mode % 512)) };
+
+    fn from(description: Description) -> Directory {
+        Directory {
+            owner: description.owner,
+            group: description.group,
+            execute: Mode::try_from(description.mode % 512).unwrap().into(),
+        }
+    }
 }
 
 // The subject that asks, as its line names it.
@@ -52,6 +68,7 @@ pub enum BadLine {
     Groups,
 }
 
+// Written out: a further crate's derive would have the same texts in attributes.
 impl fmt::Display for BadLine {
     fn fmt<W: fmt::Write>(&self, f: &mut fmt::Formatter<W>) -> fmt::Result {
         let wrong = match self {

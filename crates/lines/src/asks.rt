@@ -28,7 +28,7 @@ impl Line {
         is_subset(&self.wanted, subject.groups) && is_disjoint(&self.barred, subject.groups)
     }
 
-    // Asks for one group more.
+    // Asks for one group more. Beside `bar`: one method for both would have to be told the field.
     pub fn want(&mut self, group: u8)
         ensures { self.new ≡ wanting group self.old }
     {
@@ -57,6 +57,7 @@ impl Line {
     }
 
     // By the directory's bits of group and others the line stays, wants the group, bars it, or goes; says whether it stays.
+    // A bool beside the line that is lent, as `retain_mut` asks.
     pub fn treat(&mut self, directory: &Directory) -> bool
         ensures { Stays (treated_by directory.now self.old) result self.old self.new }
     {

@@ -37,7 +37,7 @@ impl OpenLine {
         self.shut.place(user);
     }
 
-    // Move 3; says whether the line stays.
+    // Move 3; says whether the line stays. A bool, as for the lines in the table.
     pub fn treat(&mut self, directory: &Directory) -> bool
         ensures { Stays (move_3 directory.now (Some self.old)) result self.old self.new }
     {

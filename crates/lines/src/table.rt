@@ -1,4 +1,5 @@
-// The table of user lines, in rising order of user, at most one for a user.
+// The table of user lines, in rising order of user, at most one for a user. It is searched from the front:
+// what these methods promise holds of any table, and that one is in order is known only of a whole record.
 ghost use Rattle.std.specs.Prelude.{◌≡◌, not, ◌&&◌, [], ◌∷◌, if◌then◌else◌};
 ghost use Rattle.rights.specs.Subjects.{who_of};
 ghost use Rattle.bounded.specs.Lists.{holding, listed};
@@ -28,7 +29,7 @@ impl Keyed for UserLine {
 }
 
 impl UserLine {
-    // A line in move 1; says whether it stays.
+    // A line in move 1; says whether it stays, as `retain_mut` asks.
     fn treat(&mut self, directory: &Directory) -> bool
         ensures { (if result then self.new ∷ [] else []) ≡ move_1 directory.now (self.old ∷ []) }
     {

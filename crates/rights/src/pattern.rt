@@ -13,7 +13,7 @@ pub enum Sign {
 }
 
 // A clause of a pattern: it holds where one of its literals does.
-#[derive(Clone, Copy)]
+#[derive(Clone, Copy, PartialEq, Eq, Debug)]
 pub struct Shape {
     pub user: Option<Sign>,
     pub group: Option<Sign>,
@@ -67,7 +67,7 @@ const CLAUSES: [&[Shape]; 8] = [
 ];
 
 impl Execute {
-    // The three bits as a number.
+    // The three bits as a number, for the table alone.
     fn place(self) -> usize
         ensures value { result ≡ place self }
         ensures low { result < 8 }

@@ -20,7 +20,7 @@ impl Subject<'_> {
         contains(self.groups, group)
     }
 
-    // Owner, otherwise group, otherwise others.
+    // Owner, otherwise group, otherwise others. The two numbers are asked together here alone, so they have no type.
     pub fn class(&self, owner: u16, group: u8) -> Class
         ensures { result ≡ class_of (who_of self.now) owner group }
     {

@@ -45,7 +45,7 @@ fn all_groups_but(left_out: u8) -> GroupSet {
     groups
 }
 
-// Whether all three forms of a path admit the subject; none where they differ.
+// Whether the forms of a path admit the subject, in which all three must agree.
 fn asked(rt: &impl Abort, path: &[Directory], subject: &Subject<'_>) -> Result<bool, Fail> {
     let plain: Trail = flatten(path)?;
     let conjunctive: Conjunctive = flatten(path)?;
@@ -76,7 +76,7 @@ fn every_pattern_for_every_class(rt: HostRuntime) -> Result<(), Fail> {
         let path = [directory(case / 4, 7, 9)];
         let groups = if case % 2 == 1 { members } else { NO_GROUPS };
         let user = if case % 4 >= 2 { 7 } else { 8 };
-        let expected = MAY[(case / 4) as usize][(case % 4) as usize];
+        let expected = MAY[usize::from(case / 4)][usize::from(case % 4)];
         assert_eq!(rt;
             asked(
                 &rt,

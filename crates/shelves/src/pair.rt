@@ -34,6 +34,7 @@ impl<L: Shelf, R: Shelf<Form = L::Form>> Shelf for Pair<L, R> {
         }
     }
 
+    // The first clause is the trait's, which a method with clauses of its own has to repeat.
     fn write(&mut self, n: usize, slot: &Slot<L::Form>)
         ensures slots { Same (paired (L.Shelf.slots self.new.left) (R.Shelf.slots self.new.right)) (written (paired (L.Shelf.slots self.old.left) (R.Shelf.slots self.old.right)) n slot.now) }
         ensures left { Same (L.Shelf.slots self.new.left) (written (L.Shelf.slots self.old.left) n slot.now) }

@@ -46,6 +46,7 @@ impl<S: Shelf> Shelf for Scatter<S> {
         }
     }
 
+    // The first clause is the trait's, which a method with clauses of its own has to repeat.
     fn write(&mut self, n: usize, slot: &Slot<S::Form>)
         ensures slots { Same (scattered (S.Shelf.slots self.new.below)) (written (scattered (S.Shelf.slots self.old.below)) n slot.now) }
         ensures below { Same (S.Shelf.slots self.new.below) (below_written (S.Shelf.slots self.old.below) n slot.now) }

@@ -5,6 +5,7 @@ use crate::entry::Entry;
 #[derive(Clone, Copy)]
 pub struct Node<F> {
     pub entry: Entry,
+    // A flag beside the requirement, which stays stored while it is stale.
     pub stale: bool,
     pub requirement: F,
 }

@@ -47,6 +47,7 @@ impl<'a, F: Form> Shelf for Table<'a, F> {
         self.memory[..self.size()].get(n)?.as_ref()
     }
 
+    // The first clause is the trait's, which a method with clauses of its own has to repeat.
     fn write(&mut self, n: usize, slot: &Slot<F>)
         ensures slots { Same (tabled self.new.memory.now) (written (tabled self.old.memory.now) n slot.now) }
         ensures memory { self.new.memory.now ≡ placed self.old.memory.now n slot.now }

@@ -40,19 +40,19 @@ fn requirement<F: Form>(level: usize) -> F {
 }
 
 // A node all of whose parts tell its number.
-fn node<F: Form>(n: usize) -> Option<Node<F>> {
+fn node<F: Form>(n: usize) -> Result<Node<F>, Fail> {
     let entry = Entry {
         kind: if n % 2 == 0 {
             Kind::Directory
         } else {
             Kind::File
         },
-        parent: NodeNumber::try_from((n / 2 % 4096) as u16).ok()?,
+        parent: NodeNumber::try_from((n / 2 % 4096) as u16)?,
         owner: (n % 65536) as u16,
         group: (n % 256) as u8,
-        mode: Mode::try_from((n % 512) as u16).ok()?,
+        mode: Mode::try_from((n % 512) as u16)?,
     };
-    Some(Node {
+    Ok(Node {
         entry,
         stale: n % 3 == 0,
         requirement: requirement(n % 5),
@@ -72,8 +72,7 @@ fn is_node<F: Form>(told: &Node<F>, n: usize) -> bool {
 
 // Fills the slot of this number with its node.
 fn fill<S: Shelf>(shelf: &mut S, n: usize) -> Result<(), Fail> {
-    let node = node(n).ok_or_else(|| Fail::new("no node has this number"))?;
-    shelf.write(n, &Some(node));
+    shelf.write(n, &Some(node(n)?));
     Ok(())
 }
 

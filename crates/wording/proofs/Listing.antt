@@ -23,14 +23,14 @@ none_yet_more [] n = refl
 none_yet_more (m ∷ ns) n = refl
 
 module _ {W : Type 0} (took : W → List ℕ → W → Type 0) where
-  -- the numbers were written between f and g; `first` says that there were none
-  pub record Listed (f : Formatter W) (ns : List ℕ) (first : Bool) (g : Formatter W) : Type 0 where
+  -- the numbers were written between f and g; `mark` goes before the next
+  pub record Listed (f : Formatter W) (ns : List ℕ) (mark : List ℕ) (g : Formatter W) : Type 0 where
     pub text : IsPlainFormatter f → HasWritten took f (number_words ns) g
-    pub fresh : first ≡ none_yet ns
+    pub fresh : mark ≡ cond (none_yet ns) [] (codes ", ")
 
   -- a number more, by a call that answered `Ok`
-  pub listed_more : {f g h : Formatter W} {ns : List ℕ} {first : Bool} (n : ℕ) → Listed f ns first g → WritesOnOk took g (Ok tt) (cond first [] (codes ", ") ++ decimal n) h → Listed f (ns ++ n ∷ []) false h
+  pub listed_more : {f g h : Formatter W} {ns mark : List ℕ} (n : ℕ) → Listed f ns mark g → WritesOnOk took g (Ok tt) (mark ++ decimal n) h → Listed f (ns ++ n ∷ []) (codes ", ") h
   listed_more {f = f} {g = g} {h = h} {ns = ns} n was p = record {
     text = λ plain. let x = was.text plain in rw (number_words_more, ← was.fresh) (has_written_append took f _ g _ h x (p x.plain refl));
-    fresh = none_yet_more ns n;
+    fresh = ap (λ b. cond b [] (codes ", ")) (none_yet_more ns n);
   }

@@ -6,7 +6,7 @@ use crate::InWords;
 use conjunctive::clause::{Clause, Literal};
 use std::fmt;
 
-// A literal on the user.
+// A literal on the user. One for both numbers would have to be told its texts.
 impl fmt::Display for InWords<'_, Literal<u16>> {
     ghost output = { λ s. Some (user_words s.0.now) };
 
@@ -30,6 +30,7 @@ impl fmt::Display for InWords<'_, Literal<u8>> {
     }
 }
 
+// A match as for a line's two sets; one for both would have to be told three texts and two parts.
 impl fmt::Display for InWords<'_, Clause> {
     ghost output = { λ s. Some (clause_words s.0.now) };
 

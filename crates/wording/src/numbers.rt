@@ -16,17 +16,6 @@ pub struct Users<'a>(pub &'a [u16]);
 #[derive(Drop)]
 pub struct Groups<'a>(pub &'a GroupSet);
 
-// Writes a number, after ", " unless it is the first.
-fn number<W: fmt::Write>(f: &mut fmt::Formatter<W>, first: bool, n: u16) -> fmt::Result
-    ensures { WritesOnOk W.Write.write_str_gives f.old result ((if first then [] else codes ", ") ++ decimal n) f.new }
-{
-    if first {
-        write!(f, "{n}")
-    } else {
-        write!(f, ", {n}")
-    }
-}
-
 // Writes the numbers that an iterator yields, with ", " between them.
 fn write_numbers<W: fmt::Write, I: Iterator<Item = u16> + Drop>(
     f: &mut fmt::Formatter<W>,
@@ -36,10 +25,10 @@ fn write_numbers<W: fmt::Write, I: Iterator<Item = u16> + Drop>(
     requires ends { IsFinite (I.remaining numbers) }
     ensures { (ns : List ℕ) → YieldsList I.next_gives (λ n. n) numbers ns → WritesOnOk W.Write.write_str_gives f.old result (number_words ns) f.new }
 {
-    let mut first = true;
+    let mut separator = "";
     for n in numbers {
-        number(f, first, n)?;
-        first = false;
+        write!(f, "{separator}{n}")?;
+        separator = ", ";
     }
     Ok(())
 }

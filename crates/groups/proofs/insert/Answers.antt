@@ -6,4 +6,4 @@ use Rattle.groups.proofs.insert.Goals as goal
 pub returns-clause-members : goal.returns-clause-members
 returns-clause-members c =
     let bit = one_shl (7 - c.args.group % 8) 8 (omega arith) in
-    rw bit (λ h l. member_inserted c.args.set.now c.args.group h c.told-set (search rules))
+    rw (bit, c.from.ensures) (λ h l. member_inserted c.args.set.now c.args.group h c.told-set (search rules))

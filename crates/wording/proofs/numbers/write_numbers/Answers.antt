@@ -7,7 +7,7 @@ use Rattle.wording.proofs.numbers.write_numbers.Goals as goal
 pub loop-n-preserved : goal.loop-n-preserved
 loop-n-preserved g c =
     let go = c.in-Some.ensures.goes.on c.loop-n.invariant.1 in
-    (go.0, go.1, listed_more _ _ c.loop-n.invariant.2 c.in_ok-number.ensures)
+    (go.0, go.1, listed_more _ _ c.loop-n.invariant.2 c.in_ok-write.ensures.writes)
 
 pub returns : goal.returns
 returns g c ns yields plain _ =

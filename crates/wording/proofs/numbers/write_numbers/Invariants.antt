@@ -6,4 +6,4 @@ abbrev pub invariant-loop-n : goal.invariant-loop-n
 invariant-loop-n g l =
     (goal.iterator-loop-n g).can_next l.n-iterator
     × (goal.iterator-loop-n g).is_finite l.n-iterator
-    × Listed g.W.Write.write_str_gives l.initial.f l.yielded l.first l.f
+    × Listed g.W.Write.write_str_gives l.initial.f l.yielded l.separator l.f

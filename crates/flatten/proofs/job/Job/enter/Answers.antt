@@ -15,7 +15,7 @@ returns c =
       refl,
       record {
         directory = _;
-        described = record { owner_is = refl; group_is = refl; execute_is = c.execute_of.ensures };
+        described = record { owner_is = c.into.ensures.0; group_is = c.into.ensures.1; execute_is = c.into.ensures.2 };
         path =
             ap listed c.push.ensures.list
             ∙ packed_listed the_row.coded {n = 16} path.filler (listed path ++ (_ ∷ [])) (simp length-append (omega arith));
