@@ -1,10 +1,11 @@
 -- Rule 5 adds the old clauses by all the rules: beside a lone [user is u], or the empty clause, the short rules are the whole ones.
-use Rattle.std.proofs.Common.{◌≡◌, ℕ, true, false, not, ◌⊎◌, List, [], ◌∷◌, ◌++◌, Some, None, filter, Option, is_none, refl, ap, inl, inr, arith}
+use Rattle.std.proofs.Common.{◌≡◌, ℕ, true, false, not, ◌⊎◌, List, [], ◌∷◌, ◌++◌, Some, None, filter, refl, ap, inl, inr, arith}
 use Rattle.std.specs.Option.{option_or}
 use Rattle.std.specs.List.{list_any}
 use Rattle.conjunctive.specs.declared.clause.Literal.{Literal}
+use Rattle.conjunctive.specs.declared.clause.Literal.TheVariants.{Absent}
 use Rattle.conjunctive.specs.declared.clause.Clause.{Clause}
-use Rattle.conjunctive.specs.Clauses.{within, is_empty, lone_in}
+use Rattle.conjunctive.specs.Clauses.{is_absent, within, is_empty, lone_in}
 use Rattle.conjunctive.specs.Adding.{struck, put, put_left, add_under, all_under, added, all_added, BeginsAnew}
 
 -- the list has the empty clause, or its lone clause is [user is u]
@@ -15,9 +16,9 @@ lone_append : (xs ys : List Clause) → lone_in (xs ++ ys) ≡ option_or (lone_i
 lone_append [] ys = refl
 lone_append (x ∷ xs) ys = grind (arith, lone_append xs ys)
 
-module _ (g : Option (Literal ℕ)) (some_literal : is_none g ≡ false) where
+module _ (g : Literal ℕ) (some_literal : is_absent g ≡ false) where
   abbrev c : Clause
-  c = record { user = None; group = g }
+  c = record { user = Absent; group = g }
 
   kept_lone : (xs : List Clause) → lone_in (filter (λ x. not (within c x)) xs) ≡ lone_in xs
   kept_lone [] = refl

@@ -2,15 +2,15 @@
 use Rattle.std.specs.Prelude.{◌≡◌, ℕ, Bool, cond, not, List, [], ◌∷◌, ◌++◌, Some, None, filter, Option, ◌==◌}
 use Rattle.std.specs.List.{list_any}
 use Rattle.conjunctive.specs.declared.clause.Literal.{Literal}
-use Rattle.conjunctive.specs.declared.clause.Literal.TheVariants.{Positive, Negative}
+use Rattle.conjunctive.specs.declared.clause.Literal.TheVariants.{Absent, Positive, Negative}
 use Rattle.conjunctive.specs.declared.clause.Clause.{Clause}
 use Rattle.conjunctive.specs.Clauses.{within, empty, is_empty, lone, lone_in}
 
 -- rule 3, where the list has [user is u]: None where the clause is dropped, else what is left of it
-abbrev pub struck : ℕ → Option (Literal ℕ) → Option (Literal ℕ) → Option Clause
-struck u None g = Some (record { user = None; group = g })
-struck u (Some (Positive v)) g = cond (v == u) None (Some (record { user = None; group = g }))
-struck u (Some (Negative v)) g = cond (v == u) (Some (record { user = None; group = g })) None
+abbrev pub struck : ℕ → Literal ℕ → Literal ℕ → Option Clause
+struck u Absent g = Some (record { user = Absent; group = g })
+struck u (Positive v) g = cond (v == u) None (Some (record { user = Absent; group = g }))
+struck u (Negative v) g = cond (v == u) (Some (record { user = Absent; group = g })) None
 
 -- rule 4: a clause of the list has only literals of c
 abbrev pub covers : List Clause → Clause → Bool

@@ -1,40 +1,46 @@
 -- What clauses say, and what holds of every list of clauses in a record.
-use Rattle.std.specs.Prelude.{ℕ, Bool, true, false, not, ◌&&◌, ◌||◌, List, [], ◌∷◌, is_some, is_none, Some, None, Option, ◌==◌}
+use Rattle.std.specs.Prelude.{ℕ, Bool, true, false, not, ◌&&◌, ◌||◌, List, [], ◌∷◌, is_some, Some, None, Option, ◌==◌}
 use Rattle.std.specs.Option.{option_or}
 use Rattle.groups.specs.Groups.{member}
 use Rattle.rights.specs.Subjects.{Who}
 use Rattle.std.specs.List.{list_all}
 use Rattle.conjunctive.specs.declared.clause.Literal.{Literal}
-use Rattle.conjunctive.specs.declared.clause.Literal.TheVariants.{Positive, Negative}
+use Rattle.conjunctive.specs.declared.clause.Literal.TheVariants.{Absent, Positive, Negative}
 use Rattle.conjunctive.specs.declared.clause.Clause.{Clause}
 
 module _ {N : Type 0} where
-  abbrev pub number_of : Literal N → N
-  number_of (Positive n) = n
-  number_of (Negative n) = n
+  abbrev pub is_absent : Literal N → Bool
+  is_absent Absent = true
+  is_absent (Positive n) = false
+  is_absent (Negative n) = false
 
-  -- whether a literal holds, where its fact is so or is not
+  abbrev pub number_of : Literal N → Option N
+  number_of Absent = None
+  number_of (Positive n) = Some n
+  number_of (Negative n) = Some n
+
+  -- whether a literal is there and holds, where its fact is so or is not
   abbrev pub signed : Literal N → Bool → Bool
+  signed Absent so = false
   signed (Positive n) so = so
   signed (Negative n) so = not so
 
-  -- whether a literal is there and holds, where `fact` says what is so of a number
-  abbrev pub literal_holds : (N → Bool) → Option (Literal N) → Bool
-  literal_holds fact None = false
-  literal_holds fact (Some l) = signed l (fact (number_of l))
+  -- the same, where `fact` says what is so of a number
+  abbrev pub literal_holds : (N → Bool) → Literal N → Bool
+  literal_holds fact Absent = false
+  literal_holds fact (Positive n) = fact n
+  literal_holds fact (Negative n) = not (fact n)
 
-  -- the same literal, by a test of whether numbers are the same
+  -- the same literal, or none in both, by a test of whether numbers are the same
   abbrev pub same_literal : (N → N → Bool) → Literal N → Literal N → Bool
+  same_literal same Absent Absent = true
   same_literal same (Positive a) (Positive b) = same a b
-  same_literal same (Positive a) (Negative b) = false
-  same_literal same (Negative a) (Positive b) = false
   same_literal same (Negative a) (Negative b) = same a b
+  same_literal same l m = false
 
   -- the second is the same literal, if the first is there
-  abbrev pub literal_within : (N → N → Bool) → Option (Literal N) → Option (Literal N) → Bool
-  literal_within same None m = true
-  literal_within same (Some l) None = false
-  literal_within same (Some l) (Some m) = same_literal same l m
+  abbrev pub literal_within : (N → N → Bool) → Literal N → Literal N → Bool
+  literal_within same l m = is_absent l || same_literal same l m
 
 -- a clause holds where one of its literals does
 abbrev pub holds : Clause → Who → Bool
@@ -49,13 +55,13 @@ abbrev pub within : Clause → Clause → Bool
 within c d = literal_within ◌==◌ c.user d.user && literal_within ◌==◌ c.group d.group
 
 abbrev pub empty : Clause
-empty = record { user = None; group = None }
+empty = record { user = Absent; group = Absent }
 
 abbrev pub is_empty : Clause → Bool
-is_empty c = is_none c.user && is_none c.group
+is_empty c = is_absent c.user && is_absent c.group
 
-abbrev lone_by : Option (Literal ℕ) → Option (Literal ℕ) → Option ℕ
-lone_by (Some (Positive u)) None = Some u
+abbrev lone_by : Literal ℕ → Literal ℕ → Option ℕ
+lone_by (Positive u) Absent = Some u
 lone_by user group = None
 
 -- u, where the clause is exactly [user is u]

@@ -4,5 +4,6 @@ pub mod Requirement
 pub mod Lawfulness
 pub mod Meeting
 pub mod Rows
+pub mod Sameness
 pub mod Lengths
 pub mod Tidiness

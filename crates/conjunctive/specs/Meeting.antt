@@ -4,6 +4,8 @@ use Rattle.std.proofs.Common.{arith}
 use Rattle.std.specs.List.{list_any}
 use Rattle.std.proofs.lemmas.List.Folds.{list_all-append}
 use Rattle.rights.specs.Subjects.{Who}
+use Rattle.conjunctive.specs.declared.clause.Literal.{Literal}
+use Rattle.conjunctive.specs.declared.clause.Literal.TheVariants.{Absent, Positive, Negative}
 use Rattle.conjunctive.specs.declared.clause.Clause.{Clause}
 use Rattle.conjunctive.specs.Clauses.{holds, all_hold, within, empty, is_empty, lone, lone_in}
 use Rattle.conjunctive.specs.Adding.{struck, covers, ended, put, put_left, add_under, all_under, put_lone, add_by, added}
@@ -39,12 +41,24 @@ module _ (w : Who) where
   stays_empty xs c e = grind (arith, has_empty_fails xs e)
 
   -- rule 3: what is left of a clause says the same of user u
-  left_law : (u : ℕ) (xs : List Clause) (c : Clause) → (all_hold xs w ≡ true → (w.user == u) ≡ true)
-      → all_hold (put_left xs (struck u c.user c.group)) w ≡ (all_hold xs w && holds c w)
-  left_law u xs c lone_u = let d : Clause = record { user = None; group = c.group } in grind (arith, emptied xs d, put_law xs d, lone_u)
+  Left : Option Clause → Clause → Type 0
+  Left None c = holds c w ≡ true
+  Left (Some d) c = holds d w ≡ holds c w
+
+  struck_law : (u : ℕ) (l g : Literal ℕ) → (w.user == u) ≡ true → Left (struck u l g) (record { user = l; group = g })
+  unfolding Left
+  struck_law u Absent g e = grind arith
+  struck_law u (Positive v) g e = grind arith
+  struck_law u (Negative v) g e = grind arith
+
+  left_law : (xs : List Clause) (c : Clause) (o : Option Clause) → (all_hold xs w ≡ true → Left o c) → all_hold (put_left xs o) w ≡ (all_hold xs w && holds c w)
+  unfolding Left
+  left_law xs c None f = grind (arith, f)
+  left_law xs c (Some d) f = grind (arith, emptied xs d, put_law xs d, f)
 
   under_law : (u : ℕ) (xs : List Clause) (c : Clause) → (all_hold xs w ≡ true → (w.user == u) ≡ true) → all_hold (add_under u xs c) w ≡ (all_hold xs w && holds c w)
-  under_law u xs c lone_u = grind (arith, stays_empty xs c, emptied xs c, left_law u xs c lone_u)
+  under_law u xs c lone_u =
+      grind (arith, stays_empty xs c, emptied xs c, left_law xs c (struck u c.user c.group) (λ h. struck_law u c.user c.group (lone_u h)))
 
   -- rule 5
   all_under_law : (u : ℕ) (xs cs : List Clause) → (all_hold xs w ≡ true → (w.user == u) ≡ true) → all_hold (all_under u xs cs) w ≡ (all_hold xs w && all_hold cs w)
@@ -64,7 +78,7 @@ module _ (w : Who) where
 
   by_law : (xs : List Clause) (c : Clause) (o : Option ℕ) → lone_in xs ≡ o → all_hold (add_by o xs c) w ≡ (all_hold xs w && holds c w)
   by_law xs c None e = grind (arith, covered xs c, lone_put_law xs c (lone c) refl)
-  by_law xs c (Some u) e = left_law u xs c (lone_in_law xs u e)
+  by_law xs c (Some u) e = left_law xs c (struck u c.user c.group) (λ h. struck_law u c.user c.group (lone_in_law xs u e h))
 
   pub added_law : (xs : List Clause) (c : Clause) → all_hold (added xs c) w ≡ (all_hold xs w && holds c w)
   added_law xs c = grind (arith, stays_empty xs c, emptied xs c, by_law xs c (lone_in xs) refl)

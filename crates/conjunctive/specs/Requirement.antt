@@ -1,5 +1,5 @@
 -- The conjunctive record as a flattened requirement.
-use Rattle.std.specs.Prelude.{◌≡◌, ℕ, ◌+◌, ◌*◌, ◌≤◌, min, true, List, [], ◌∷◌, length, take, option_map, slice_index_or, refl}
+use Rattle.std.specs.Prelude.{◌≡◌, ℕ, ◌+◌, ◌*◌, ◌≤◌, min, true, List, [], ◌∷◌, length, take, Some, None, Option, slice_index_or, refl}
 use Rattle.std.proofs.Common.{arith, length-take, lit≤}
 use Rattle.std.proofs.Math.Nat.{min-le_right}
 use Rattle.rights.specs.declared.pattern.Sign.{Sign}
@@ -19,13 +19,14 @@ use Rattle.conjunctive.specs.declared.record.Conjunctive.{Conjunctive}
 use Rattle.conjunctive.specs.Clauses.{all_hold, empty, same_clause, tidy}
 use Rattle.conjunctive.specs.Adding.{added}
 
-abbrev pub literal_of : {N : Type 0} → Sign → N → Literal N
-literal_of sign.Positive n = literal.Positive n
-literal_of sign.Negative n = literal.Negative n
+abbrev pub literal_of : {N : Type 0} → Option Sign → N → Literal N
+literal_of None n = literal.Absent
+literal_of (Some sign.Positive) n = literal.Positive n
+literal_of (Some sign.Negative) n = literal.Negative n
 
 -- a clause of a pattern, at an owner and a group
 abbrev pub clause_of : ℕ → ℕ → Shape → Clause
-clause_of u g s = record { user = option_map (λ t. literal_of t u) s.user; group = option_map (λ t. literal_of t g) s.group }
+clause_of u g s = record { user = literal_of s.user u; group = literal_of s.group g }
 
 -- the clauses of a pattern added in order
 abbrev pub with_row : ℕ → ℕ → List Clause → List Shape → List Clause

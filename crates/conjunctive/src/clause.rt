@@ -1,49 +1,65 @@
 // Clauses: at most one literal on the user and one on a group. A clause holds where one of its literals does.
 ghost use Rattle.std.specs.Prelude.{◌≡◌, Bool, false, MatchOption};
 ghost use Rattle.rights.specs.Subjects.{who_of};
-ghost use Rattle.conjunctive.specs.Clauses.{number_of, signed, literal_within, holds, within, is_empty, lone};
+ghost use Rattle.conjunctive.specs.Clauses.{is_absent, number_of, signed, literal_within, holds, within, is_empty, lone, same_clause};
+ghost use Rattle.conjunctive.specs.Sameness.{same_laws, partial_laws};
 
 use groups::contains;
 use rights::subject::Subject;
 
-// A literal on a number: positive is "user is u" or "in group g", negative "user is not u" or "not in group g".
+// A literal on a number, or none: positive is "user is u" or "in group g", negative "user is not u" or "not in group g".
+// That there is none is a case and no `Option` around the type: each enum has a tag of its own, and a tag more
+// in each literal would make the record, which lies beside each file and travels with it, larger by more than half.
 // An enum, and no struct of a `Sign` and a number, since the two are matched together.
 #[derive(Clone, Copy, PartialEq, Eq, Debug)]
 pub enum Literal<T> {
+    Absent,
     Positive(T),
     Negative(T),
 }
 
-#[derive(Clone, Copy, PartialEq, Eq, Debug)]
+#[derive(Clone, Copy, Debug)]
 pub struct Clause {
-    pub user: Option<Literal<u16>>,
-    pub group: Option<Literal<u8>>,
+    pub user: Literal<u16>,
+    pub group: Literal<u8>,
 }
 
-// Whether there is a literal that holds, where `fact` says what is so of a number.
-fn holds<T, F: FnOnce(T) -> bool>(literal: Option<Literal<T>>, fact: F) -> bool
-    requires { F.IsAlwaysCallable fact }
-    ensures { MatchOption literal (result ≡ false) (λ l. (so : Bool) × F.post fact (number_of l) so × (result ≡ signed l so)) }
-{
-    match literal {
-        None => false,
-        Some(Literal::Positive(n)) => fact(n),
-        Some(Literal::Negative(n)) => !fact(n),
+const _: () = prove!(size_of::<Clause>() == 6);
+
+impl<T: Copy> Literal<T> {
+    pub fn is_absent(self) -> bool
+        ensures { result ≡ is_absent self }
+    {
+        matches!(self, Literal::Absent)
+    }
+
+    // Whether there is a literal that holds, where `fact` says what is so of a number.
+    fn holds<F: FnOnce(T) -> bool>(self, fact: F) -> bool
+        requires { F.IsAlwaysCallable fact }
+        ensures { MatchOption (number_of self) (result ≡ false) (λ n. (so : Bool) × F.post fact n so × (result ≡ signed self so)) }
+    {
+        match self {
+            Literal::Absent => false,
+            Literal::Positive(n) => fact(n),
+            Literal::Negative(n) => !fact(n),
+        }
     }
 }
 
-// Whether the other clause has this literal, if there is one.
-fn within<T: Copy + PartialEq>(literal: Option<Literal<T>>, other: Option<Literal<T>>) -> bool
-    ensures { result ≡ literal_within T.eq literal other }
-{
-    literal.is_none() || literal == other
+impl<T: Copy + PartialEq> Literal<T> {
+    // Whether the other clause has this literal, if there is one.
+    fn within(self, other: Literal<T>) -> bool
+        ensures { result ≡ literal_within T.eq self other }
+    {
+        self.is_absent() || self == other
+    }
 }
 
 impl Clause {
     // The clause without a literal, which holds of nobody.
     pub const EMPTY: Clause = Clause {
-        user: None,
-        group: None,
+        user: Literal::Absent,
+        group: Literal::Absent,
     };
 
     pub fn holds(self, subject: &Subject<'_>) -> bool
@@ -51,20 +67,20 @@ impl Clause {
     {
         // Each closure captures one part of the subject: of one that captured a reference to it, no result would be inferred.
         let Subject { user, groups } = *subject;
-        holds(self.user, |u| user == u) || holds(self.group, |g| contains(groups, g))
+        self.user.holds(|u| user == u) || self.group.holds(|g| contains(groups, g))
     }
 
     // Whether the other clause has all literals of this one.
     pub fn within(self, other: Clause) -> bool
         ensures { result ≡ within self other }
     {
-        within(self.user, other.user) && within(self.group, other.group)
+        self.user.within(other.user) && self.group.within(other.group)
     }
 
     pub fn is_empty(self) -> bool
         ensures { result ≡ is_empty self }
     {
-        self.user.is_none() && self.group.is_none()
+        self.user.is_absent() && self.group.is_absent()
     }
 
     // The user of a clause that is exactly "user is u".
@@ -72,8 +88,23 @@ impl Clause {
         ensures { result ≡ lone self }
     {
         match (self.user, self.group) {
-            (Some(Literal::Positive(u)), None) => Some(u),
+            (Literal::Positive(u), Literal::Absent) => Some(u),
             _ => None,
         }
     }
+}
+
+// Written out, as for a line: each within the other, which is the definition.
+impl PartialEq for Clause {
+    ghost eq = { same_clause };
+
+    ghost laws = { partial_laws };
+
+    fn eq(&self, other: &Clause) -> bool {
+        self.within(*other) && other.within(*self)
+    }
+}
+
+impl Eq for Clause {
+    ghost laws = { same_laws };
 }

@@ -11,3 +11,5 @@ pub struct Conjunctive {
     pub clauses: Clauses,
     ghost ok: { (level ≤ 16) × (clauses.list.count ≤ 2 * level) × (tidy (listed clauses.list) ≡ true) },
 }
+
+const _: () = prove!(size_of::<Conjunctive>() == 216);

@@ -18,12 +18,12 @@ impl Clause {
         ensures { result ≡ struck u self.user self.group }
     {
         let left = Clause {
-            user: None,
+            user: Literal::Absent,
             group: self.group,
         };
         match self.user {
-            Some(Literal::Positive(v)) if v == u => None,
-            Some(Literal::Negative(v)) if v != u => None,
+            Literal::Positive(v) if v == u => None,
+            Literal::Negative(v) if v != u => None,
             _ => Some(left),
         }
     }
@@ -144,13 +144,14 @@ impl Clauses {
     }
 }
 
-impl<T> Literal<T> {
-    fn of(sign: Sign, number: T) -> Literal<T>
+impl<T: Copy> Literal<T> {
+    fn of(sign: Option<Sign>, number: T) -> Literal<T>
         ensures { result ≡ literal_of sign number }
     {
         match sign {
-            Sign::Positive => Literal::Positive(number),
-            Sign::Negative => Literal::Negative(number),
+            None => Literal::Absent,
+            Some(Sign::Positive) => Literal::Positive(number),
+            Some(Sign::Negative) => Literal::Negative(number),
         }
     }
 }
@@ -163,8 +164,8 @@ impl Clauses {
     {
         for shape in directory.execute.clauses() {
             self.add(Clause {
-                user: shape.user.map(|sign| Literal::of(sign, directory.owner)),
-                group: shape.group.map(|sign| Literal::of(sign, directory.group)),
+                user: Literal::of(shape.user, directory.owner),
+                group: Literal::of(shape.group, directory.group),
             });
         }
     }

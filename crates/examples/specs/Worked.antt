@@ -6,7 +6,7 @@ use Rattle.rights.specs.declared.directory.Directory.{Directory}
 use Rattle.rights.specs.Subjects.{Who, may}
 use Rattle.rights.specs.Paths.{narrowed_by}
 use Rattle.bounded.specs.Lists.{listed}
-use Rattle.conjunctive.specs.declared.clause.Literal.TheVariants.{Positive, Negative}
+use Rattle.conjunctive.specs.declared.clause.Literal.TheVariants.{Absent, Positive, Negative}
 use Rattle.conjunctive.specs.declared.clause.Clause.{Clause}
 use Rattle.conjunctive.specs.Clauses.{empty}
 use Rattle.conjunctive.specs.Requirement.{conjunctions, list_of as clauses_of}
@@ -34,16 +34,16 @@ abbrev pub clauses : List Directory → List Clause
 clauses path = clauses_of (narrowed_by conjunctions conjunctions.everyone path)
 
 abbrev is_or_in : ℕ → ℕ → Clause
-is_or_in u g = record { user = Some (Positive u); group = Some (Positive g) }
+is_or_in u g = record { user = Positive u; group = Positive g }
 
 abbrev is : ℕ → Clause
-is u = record { user = Some (Positive u); group = None }
+is u = record { user = Positive u; group = Absent }
 
 abbrev is_not : ℕ → Clause
-is_not u = record { user = Some (Negative u); group = None }
+is_not u = record { user = Negative u; group = Absent }
 
 abbrev in_group : ℕ → Clause
-in_group g = record { user = None; group = Some (Positive g) }
+in_group g = record { user = Absent; group = Positive g }
 
 -- a set of groups
 abbrev pub set_of : List ℕ → List ℕ

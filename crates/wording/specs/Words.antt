@@ -1,11 +1,10 @@
 -- The words for a clause and for a line, as bytes of ASCII.
 use Rattle.std.specs.Prelude.{ℕ, cond, List, [], ◌∷◌, ◌++◌, replicate, codes, decimal, filter}
 use Rattle.std.specs.List.{range_with_len}
-use Rattle.std.specs.Option.{option_map_or}
 use Rattle.bounded.specs.Lists.{listed}
 use Rattle.groups.specs.Groups.{member, subset}
 use Rattle.conjunctive.specs.declared.clause.Literal.{Literal}
-use Rattle.conjunctive.specs.declared.clause.Literal.TheVariants.{Positive, Negative}
+use Rattle.conjunctive.specs.declared.clause.Literal.TheVariants.{Absent, Positive, Negative}
 use Rattle.conjunctive.specs.declared.clause.Clause.{Clause}
 use Rattle.lines.specs.declared.line.Line.{Line}
 use Rattle.lines.specs.declared.line.UserLine.{UserLine}
@@ -18,19 +17,21 @@ marked none mark [] (y ∷ b) = y ∷ b
 marked none mark (x ∷ a) [] = x ∷ a
 marked none mark (x ∷ a) (y ∷ b) = (x ∷ a) ++ (mark ++ (y ∷ b))
 
--- a literal on the user
+-- a literal on the user; nothing for none
 abbrev pub user_words : Literal ℕ → List ℕ
+user_words Absent = []
 user_words (Positive u) = codes "user is " ++ decimal u
 user_words (Negative u) = codes "user is not " ++ decimal u
 
--- a literal on a group
+-- a literal on a group; nothing for none
 abbrev pub group_words : Literal ℕ → List ℕ
+group_words Absent = []
 group_words (Positive g) = codes "in group " ++ decimal g
 group_words (Negative g) = codes "not in group " ++ decimal g
 
--- a clause: its literals, and nothing for one that is not there
+-- a clause: its literals
 abbrev pub clause_words : Clause → List ℕ
-clause_words c = marked (codes "nobody") (codes ", or ") (option_map_or user_words c.user []) (option_map_or group_words c.group [])
+clause_words c = marked (codes "nobody") (codes ", or ") (user_words c.user) (group_words c.group)
 
 -- numbers, each after ", "
 abbrev pub more_words : List ℕ → List ℕ

@@ -6,24 +6,26 @@ use crate::InWords;
 use conjunctive::clause::{Clause, Literal};
 use std::fmt;
 
-// A literal on the user. One for both numbers would have to be told its texts.
+// A literal on the user; nothing for none. One for both numbers would have to be told its texts.
 impl fmt::Display for InWords<'_, Literal<u16>> {
     ghost output = { λ s. Some (user_words s.0.now) };
 
     fn fmt<W: fmt::Write>(&self, f: &mut fmt::Formatter<W>) -> fmt::Result {
         match *self.0 {
+            Literal::Absent => f.write_str(""),
             Literal::Positive(u) => write!(f, "user is {u}"),
             Literal::Negative(u) => write!(f, "user is not {u}"),
         }
     }
 }
 
-// A literal on a group.
+// A literal on a group; nothing for none.
 impl fmt::Display for InWords<'_, Literal<u8>> {
     ghost output = { λ s. Some (group_words s.0.now) };
 
     fn fmt<W: fmt::Write>(&self, f: &mut fmt::Formatter<W>) -> fmt::Result {
         match *self.0 {
+            Literal::Absent => f.write_str(""),
             Literal::Positive(g) => write!(f, "in group {g}"),
             Literal::Negative(g) => write!(f, "not in group {g}"),
         }
@@ -35,11 +37,13 @@ impl fmt::Display for InWords<'_, Clause> {
     ghost output = { λ s. Some (clause_words s.0.now) };
 
     fn fmt<W: fmt::Write>(&self, f: &mut fmt::Formatter<W>) -> fmt::Result {
-        match (&self.0.user, &self.0.group) {
-            (None, None) => f.write_str("nobody"),
-            (Some(user), None) => InWords(user).fmt(f),
-            (None, Some(group)) => InWords(group).fmt(f),
-            (Some(user), Some(group)) => write!(f, "{}, or {}", InWords(user), InWords(group)),
+        let user = InWords(&self.0.user);
+        let group = InWords(&self.0.group);
+        match (self.0.user, self.0.group) {
+            (Literal::Absent, Literal::Absent) => f.write_str("nobody"),
+            (Literal::Absent, _) => group.fmt(f),
+            (_, Literal::Absent) => user.fmt(f),
+            _ => write!(f, "{user}, or {group}"),
         }
     }
 }

@@ -42,12 +42,12 @@ mod tests {
 
     fn clauses(rt: &impl Abort, heap: Global) -> Result<(), Fail> {
         for (user, group, words) in [
-            (None, None, "nobody"),
-            (Some(Literal::Positive(1)), None, "user is 1"),
-            (None, Some(Literal::Negative(3)), "not in group 3"),
+            (Literal::Absent, Literal::Absent, "nobody"),
+            (Literal::Positive(1), Literal::Absent, "user is 1"),
+            (Literal::Absent, Literal::Negative(3), "not in group 3"),
             (
-                Some(Literal::Negative(1)),
-                Some(Literal::Positive(3)),
+                Literal::Negative(1),
+                Literal::Positive(3),
                 "user is not 1, or in group 3",
             ),
         ] {

@@ -22,7 +22,7 @@ loop-shape-preserved c =
     let within : i < length row = omega arith in
     let short : length row ≤ 2 = omega (arith, ap length c.clauses-shape-items.ensures.row, row_length c.args.directory.now.execute) in
     let shape : Shape = get_or row i (record { user = None; group = None }) in
-    let clause : Clause = record { user = c.map.result; group = c.map-in-loop-shape.result } in
+    let clause : Clause = record { user = c.of.result; group = c.of-in-loop-shape.result } in
     let filled : clause ≡ clause_of u g shape = grind (arith, common_steps) in
     let few : length (added (listed s) clause) ≤ s.count + 1 = omega (arith, added_le (listed s) clause, clause_count s) in
     let is = unpacked t s.filler (added (listed s) clause) c.add.ensures (omega (arith, few, short, c.loop-shape.invariant.1)) in (
