@@ -1,36 +1,20 @@
 -- Numbers written one after another, with ", " between them.
-use Rattle.std.proofs.Common.{◌≡◌, ℕ, Bool, true, false, cond, List, [], ◌∷◌, ◌++◌, Ok, codes, decimal, refl, ap, append_assoc, append-nil}
+use Rattle.std.proofs.Common.{◌≡◌, ℕ, List, [], ◌∷◌, ◌++◌, codes, decimal, refl, ap, subst}
+use Rattle.std.specs.declared.fmt.Error.{Error}
 use Rattle.std.specs.declared.fmt.Formatter.{Formatter}
-use Rattle.std.specs.Fmt.{IsPlainFormatter, HasWritten, WritesOnOk}
-use Rattle.std.proofs.Output.{has_written_append}
+use Rattle.std.specs.declared.result.Result.{Result}
+use Rattle.std.specs.Fmt.{WritesOnOk}
+use Rattle.std.specs.List.{flat_map, join_by}
 use Rattle.wording.specs.Words.{more_words, number_words}
 
--- whether no number is there yet
-abbrev pub none_yet : List ℕ → Bool
-none_yet [] = true
-none_yet (n ∷ ns) = false
+more_words_joined : (ns : List ℕ) → flat_map (λ n. codes ", " ++ decimal n) ns ≡ more_words ns
+more_words_joined [] = refl
+more_words_joined (n ∷ ns) = ap (λ (l : List ℕ). codes ", " ++ (decimal n ++ l)) (more_words_joined ns)
 
-more_words_more : (ns : List ℕ) (n : ℕ) → more_words (ns ++ n ∷ []) ≡ more_words ns ++ (codes ", " ++ decimal n)
-more_words_more [] n = ap (λ (l : List ℕ). codes ", " ++ l) (append-nil (decimal n))
-more_words_more (m ∷ ns) n = simp (more_words_more ns n, append_assoc)
+number_words_joined : (ns : List ℕ) → join_by decimal (codes ", ") ns ≡ number_words ns
+number_words_joined [] = refl
+number_words_joined (n ∷ ns) = ap (λ (l : List ℕ). decimal n ++ l) (more_words_joined ns)
 
-number_words_more : (ns : List ℕ) (n : ℕ) → number_words (ns ++ n ∷ []) ≡ number_words ns ++ (cond (none_yet ns) [] (codes ", ") ++ decimal n)
-number_words_more [] n = append-nil (decimal n)
-number_words_more (m ∷ ns) n = simp (more_words_more ns n, append_assoc)
-
-none_yet_more : (ns : List ℕ) (n : ℕ) → false ≡ none_yet (ns ++ n ∷ [])
-none_yet_more [] n = refl
-none_yet_more (m ∷ ns) n = refl
-
-module _ {W : Type 0} (took : W → List ℕ → W → Type 0) where
-  -- the numbers were written between f and g; `mark` goes before the next
-  pub record Listed (f : Formatter W) (ns : List ℕ) (mark : List ℕ) (g : Formatter W) : Type 0 where
-    pub text : IsPlainFormatter f → HasWritten took f (number_words ns) g
-    pub fresh : mark ≡ cond (none_yet ns) [] (codes ", ")
-
-  -- a number more, by a call that answered `Ok`
-  pub listed_more : {f g h : Formatter W} {ns mark : List ℕ} (n : ℕ) → Listed f ns mark g → WritesOnOk took g (Ok tt) (mark ++ decimal n) h → Listed f (ns ++ n ∷ []) (codes ", ") h
-  listed_more {f = f} {g = g} {h = h} {ns = ns} n was p = record {
-    text = λ plain. let x = was.text plain in rw (number_words_more, ← was.fresh) (has_written_append took f _ g _ h x (p x.plain refl));
-    fresh = ap (λ b. cond b [] (codes ", ")) (none_yet_more ns n);
-  }
+-- numbers joined by the mark ", " were written, in the words for them
+pub number_words_written : {W : Type 0} {took : W → List ℕ → W → Type 0} {f g : Formatter W} (r : Result (Unit {0}) Error) (ns : List ℕ) → WritesOnOk took f r (join_by decimal (codes ", ") ns) g → WritesOnOk took f r (number_words ns) g
+number_words_written {took = took} {f = f} {g = g} r ns = subst (λ (l : List ℕ). WritesOnOk took f r l g) (number_words_joined ns)
