@@ -11,10 +11,13 @@ use Rattle.std.proofs.lemmas.Bool.Decides.{nat_tests}
 abbrev pub bit : ℕ → ℕ → Bool
 bit x j = eqb (bit_at x j) 1
 
-ruleset bits = (arith, nat_tests, bit_at_and, bit_at_or, bit_at-lt, bit_at-zero)
+ruleset bits = (arith, nat_tests, bit_at_or, bit_at-lt, bit_at-zero)
 
 pub bit-or : (x y j : ℕ) → bit (bit_or x y) j ≡ (bit x j || bit y j)
 bit-or x y j = grind bits
+
+pub bit-and : (x y j : ℕ) → bit (bit_and x y) j ≡ (bit x j && bit y j)
+bit-and x y j = grind (bits, bit_at_and)
 
 pub bit_zero : (j : ℕ) → bit 0 j ≡ false
 bit_zero j = grind bits
@@ -30,8 +33,8 @@ byte_tells x y p hx hy d =
 
 pub within_tells : (x y : ℕ) → x < 256 → Decides (eqb (bit_and x y) x) ((j : ℕ) → j < 8 → (not (bit x j) || bit y j) ≡ true)
 within_tells x y h =
-    byte_tells (bit_and x y) x (λ j. not (bit x j) || bit y j) (omega (arith, and_le_l x y)) h (λ j. (λ e. grind bits, λ e. grind bits))
+    byte_tells (bit_and x y) x (λ j. not (bit x j) || bit y j) (omega (arith, and_le_l x y)) h (λ j. let both = bit-and x y j in (λ e. grind bits, λ e. grind bits))
 
 pub apart_tells : (x y : ℕ) → x < 256 → Decides (eqb (bit_and x y) 0) ((j : ℕ) → j < 8 → not (bit x j && bit y j) ≡ true)
 apart_tells x y h =
-    byte_tells (bit_and x y) 0 (λ j. not (bit x j && bit y j)) (omega (arith, and_le_l x y)) (omega arith) (λ j. (λ e. grind bits, λ e. grind bits))
+    byte_tells (bit_and x y) 0 (λ j. not (bit x j && bit y j)) (omega (arith, and_le_l x y)) (omega arith) (λ j. let both = bit-and x y j in (λ e. grind bits, λ e. grind bits))
