@@ -1,4 +1,4 @@
-use Rattle.std.proofs.Common.{◌<◌, ◌≡◌, Bool, cond, List, [], ◌∷◌, length, sym, ap, ◌∙◌}
+use Rattle.std.proofs.Common.{◌<◌, ◌≡◌, Bool, cond, List, [], ◌∷◌, length, sym, ap, ◌∙◌, arith, length-take, length-drop}
 use Rattle.std.specs.List.{flat_map}
 use Rattle.std.proofs.lemmas.List.Concat.{flat_map-append}
 use Rattle.std.proofs.lemmas.List.{append-nil}
@@ -15,7 +15,8 @@ loop-item-preserved g c =
     let x = c.item-item.result in
     let a = c.loop-item.out in
     let rest = c.loop-item.invariant.0 in
-    let within : i < length xs = c.loop-item-test.true in
+    let turn = simp (length-take, length-drop) at c.loop-item-test.true in
+    let within : i < length xs = simp length-take (omega (arith, turn)) in
     let here = rest_read xs c.loop-item.item-items i rest x c.item-item.is in
     let stays : Bool → List _ = λ b. cond b (c.change.new.arg2 ∷ []) [] in
     let left : (f : _ → List _) → Leaves g.C.Fn c.args.change f → stays c.change.result ≡ flat_map f (x ∷ []) = λ f leaves. leaves _ _ _ c.change.ensures ∙ ap f (sym c.item-item.is) ∙ sym (append-nil (f x)) in
@@ -34,4 +35,5 @@ loop-item-preserved g c =
 
 pub returns : goal.returns
 returns g c f leaves =
-    at_end (λ xs. packed g.row.N c.args.self.now.filler (flat_map f xs)) (listed c.args.self.now) c.loop-item.item-index c.loop-item.out c.loop-item-test.false (sym (c.loop-item.invariant.1 f leaves))
+    let end = simp (length-take, length-drop) at c.loop-item-test.false in
+    at_end (λ xs. packed g.row.N c.args.self.now.filler (flat_map f xs)) (listed c.args.self.now) c.loop-item.item-index c.loop-item.out (simp length-take (omega (arith, end))) (sym (c.loop-item.invariant.1 f leaves))
