@@ -13,14 +13,14 @@ pub struct Line {
 }
 
 // A line for one user alone.
-#[derive(Clone, Copy, PartialEq)]
+#[derive(Clone, Copy)]
 pub struct UserLine {
     pub user: u16,
     pub line: Line,
 }
 
 // The line for every user that it does not shut out; those in rising order.
-#[derive(Clone, Copy, PartialEq)]
+#[derive(Clone, Copy)]
 pub struct OpenLine {
     pub line: Line,
     pub shut: Bounded<u16, 16>,
