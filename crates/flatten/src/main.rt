@@ -1,8 +1,11 @@
 // Flattens the path whose directories stand on standard input, and answers for each subject that asks.
 #![tactic(auto)]
 
-ghost use Rattle.std.specs.Prelude.{◌≡◌};
-ghost use Rattle.std.specs.Io.Iter.{split_byte, split_known_bytes};
+ghost use Rattle.std.specs.Prelude.{◌≡◌, ◌<◌, length, IfOk, OnOk, IfSome, IsNone, vec_items};
+ghost use Rattle.std.specs.Io.{StopsAt};
+ghost use Rattle.std.specs.Io.BufRead.{take_through, DropsThrough};
+ghost use Rattle.std.specs.Io.KnownBytes.{IsAtEnd};
+ghost use Rattle.flatten.specs.Newline.{without_newline};
 
 mod job;
 mod records;
@@ -14,22 +17,41 @@ use records::Records;
 use report::{print_answer, print_records};
 use rights::subject::Subject;
 use std::alloc::Global;
-use std::io::{BufRead, BufReader, Split};
+use std::io::{self, BufRead, BufReader};
+use std::iter::from_fn;
 
-// The lines of the input, each without the newline that ends it.
-fn lines<R: BufRead>(input: R, heap: Global) -> Split<R>
-    ensures end { split_byte result ≡ 10 }
-    ensures bytes { split_known_bytes R.remaining result ≡ R.remaining input }
+// The next line of the input, with the newline that ends it.
+fn next_line<R: BufRead>(input: &mut R, heap: Global) -> Option<io::Result<Vec<u8>>>
+    ensures newline { IfSome result (λ read. IfOk read (λ line. (0 < length (vec_items line)) × StopsAt (vec_items line) 10)) }
+    ensures bytes { IfSome result (λ read. IfOk read (λ line. IfSome (R.remaining input.old) (λ text. vec_items line ≡ take_through 10 text))) }
+    ensures rest { IfSome result (λ read. OnOk read (DropsThrough (R.remaining input.old) (R.remaining input.new) 10)) }
+    ensures end { IsNone result → IsAtEnd (R.remaining input.old) }
 {
-    input.split(heap, b'\n')
+    let mut line = Vec::new(heap);
+    match input.read_until(b'\n', &mut line) {
+        Ok(0) => None,
+        Ok(_) => Some(Ok(line)),
+        Err(error) => Some(Err(error)),
+    }
+}
+
+// A line without its newline. With the library's `split` it would be gone before a clause here could speak of it.
+fn trimmed(line: &[u8]) -> &[u8]
+    ensures { result.now ≡ without_newline line.now }
+{
+    match line {
+        [text @ .., b'\n'] => text,
+        _ => line,
+    }
 }
 
 fn main(rt: HostRuntime) -> anyhow::Result<()> {
-    let input = BufReader::new(rt.alloc(), rt.stdin())?;
+    let mut input = BufReader::new(rt.alloc(), rt.stdin())?;
     let mut job = Job::new();
     let mut records: Option<Records> = None;
-    for (number, line) in (1u64..).zip(lines(input, rt.alloc())) {
-        let read = job.read(line?.as_slice());
+    let lines = from_fn(|| next_line(&mut input, rt.alloc()));
+    for (number, line) in (1u64..).zip(lines) {
+        let read = job.read(trimmed(line?.as_slice()));
         if job.is_over() && records.is_none() {
             records = Some(print_records(&rt, job.path())?);
         }
