@@ -1,3 +1,2 @@
 pub mod Jobs
 pub mod Joined
-pub mod Newline

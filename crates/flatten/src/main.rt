@@ -3,9 +3,8 @@
 
 ghost use Rattle.std.specs.Prelude.{◌≡◌, ◌<◌, length, IfOk, OnOk, IfSome, IsNone, vec_items};
 ghost use Rattle.std.specs.Io.{StopsAt};
-ghost use Rattle.std.specs.Io.BufRead.{take_through, DropsThrough};
+ghost use Rattle.std.specs.Io.BufRead.{take_through, strip_last, DropsThrough};
 ghost use Rattle.std.specs.Io.KnownBytes.{IsAtEnd};
-ghost use Rattle.flatten.specs.Newline.{without_newline};
 
 mod job;
 mod records;
@@ -37,7 +36,7 @@ fn next_line<R: BufRead>(input: &mut R, heap: Global) -> Option<io::Result<Vec<u
 
 // A line without its newline. With the library's `split` it would be gone before a clause here could speak of it.
 fn trimmed(line: &[u8]) -> &[u8]
-    ensures { result.now ≡ without_newline line.now }
+    ensures { result.now ≡ strip_last 10 line.now }
 {
     match line {
         [text @ .., b'\n'] => text,
